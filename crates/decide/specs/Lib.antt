@@ -1,0 +1,2 @@
+-- What every test of the crates above promises.
+pub mod Decides

@@ -1,0 +1,20 @@
+-- What `choose` gives.
+use mathlib.Core.Path.{_≡_, refl}
+use Rattle.method.specs.Tables.{choose}
+
+module _ {A P : Type 0} where
+  pub choose-yes : (d : Dec P) (a b : A) → P → choose d a b ≡ a
+  unfolding choose
+  choose-yes (yes p) a b q = refl
+  choose-yes (no n) a b q = absurd (n q)
+
+  pub choose-no : (d : Dec P) (a b : A) → (P → ⊥) → choose d a b ≡ b
+  unfolding choose
+  choose-no (yes p) a b q = absurd (q p)
+  choose-no (no n) a b q = refl
+
+  -- what holds of either where it is chosen holds of the chosen
+  pub choose-is : (Q : A → Type 0) (d : Dec P) {a b : A} → (P → Q a) → ((P → ⊥) → Q b) → Q (choose d a b)
+  unfolding choose
+  choose-is Q (yes p) f g = f p
+  choose-is Q (no n) f g = g n

@@ -1,0 +1,1 @@
+// The method has no code: its definitions stand in specs/, its theorems in proofs/.

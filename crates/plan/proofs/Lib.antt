@@ -1,0 +1,5 @@
+pub mod DirectionLaws
+pub mod CellLaws
+pub mod EstimateLaws
+pub mod GridLaws
+pub mod MoveLaws

@@ -1,0 +1,26 @@
+-- What a function of the plan answers of one move.
+use mathlib.Core.List.{List, [], _∷_}
+use Prim.Native.Nat.{ℕ, _+_, _*_, _≤_, _<_}
+use Rattle.method.specs.Graph.{Move, move}
+use Rattle.plan.specs.declared.Reach.{Reach}
+use Rattle.plan.specs.declared.Reach.the-variants.{Shut, To}
+use Rattle.plan.specs.declared.Spot.{Spot}
+use Rattle.plan.specs.Cells.{Stands, apart}
+
+-- No open move, or the one to (or from) a cell at a cost; k is its parent code.
+abbrev pub listed : ℕ → Reach → List Move
+listed k Shut = []
+listed k (To v c) = move k v c ∷ []
+
+-- Cell s stands at a spot.
+abbrev pub At : ℕ → ℕ → Spot → Type 0
+At width s at = Stands width s (at .row) (at .column)
+
+-- A spot of some plan.
+pub record Placed (at : Spot) : Type 0 where
+  pub row : at .row < 64
+  pub column : at .column < 64
+
+-- The estimate between two spots.
+abbrev pub between : Spot → Spot → ℕ
+between a b = apart (a .row) (b .row) + apart (a .column) (b .column)

@@ -1,0 +1,250 @@
+// The floor plan: directions, cells, cost bytes, the estimate, and a cell's open moves.
+ghost use mathlib.Core.Path.{_≡_};
+ghost use Prim.Native.Nat.{ℕ, _+_, _*_, _<_, _≤_};
+ghost use lib.ListN.{length};
+ghost use Rattle.decide.specs.Decides.{Decides};
+ghost use Rattle.plan.specs.Directions.{shiftOf, rowStep, columnStep, opposite};
+ghost use Rattle.plan.specs.Cells.{Size, Stays, apart, entered as enteredBy};
+ghost use Rattle.plan.specs.Costs.{IsByte, planOf, Bytes, Edge, Edges, Obeys};
+ghost use Rattle.plan.specs.Grid.{outBy, intoBy};
+ghost use Rattle.plan.specs.Reached.{listed, At, Placed, between};
+
+// A direction's step in rows and in columns, each plus 1.
+pub struct Shift {
+    pub row: usize,
+    pub column: usize,
+}
+
+// North, east, south, west.
+const SHIFTS: [Shift; 4] = [
+    Shift { row: 0, column: 1 },
+    Shift { row: 1, column: 2 },
+    Shift { row: 2, column: 1 },
+    Shift { row: 1, column: 0 },
+];
+
+// The step of a direction.
+pub fn shift_of(d: usize) -> Shift
+    requires { ⌜ d < 4 ⌝ }
+    ensures { λ r. ⌜ r ≡ shiftOf d ⌝ }
+{
+    SHIFTS[d]
+}
+
+// Are width and height each 1 to 64?
+pub fn is_size(width: usize, height: usize) -> bool
+    ensures { λ r. ⌜ Decides r (Size width height) ⌝ }
+{
+    if width == 0 {
+        return false;
+    }
+    if 64 < width {
+        return false;
+    }
+    if height == 0 {
+        return false;
+    }
+    height <= 64
+}
+
+// A row and a column.
+pub struct Spot {
+    pub row: usize,
+    pub column: usize,
+}
+
+// Where a cell stands: the one division, for those who do not carry the spot along.
+pub fn spot_of(width: usize, cell: usize) -> Spot
+    requires { ⌜ 1 ≤ width ⌝ }
+    ensures { λ r. ⌜ At width cell r ⌝ }
+{
+    let row = cell / width;
+    Spot {
+        row,
+        column: cell - row * width,
+    }
+}
+
+// The next cell's spot, for a walk over the cells.
+pub fn onward(width: usize, at: Spot) -> Spot
+    requires { ⌜ (at .row < 64) × (at .column < width) × (width ≤ 64) ⌝ }
+    ensures { λ r. ⌜ ((s : ℕ) → At width s at → At width (s + 1) r) ⌝ }
+{
+    if at.column + 1 == width {
+        return Spot {
+            row: at.row + 1,
+            column: 0,
+        };
+    }
+    Spot {
+        row: at.row,
+        column: at.column + 1,
+    }
+}
+
+// Does the move from a spot in a direction stay in the plan?
+pub fn stays_in(width: usize, height: usize, at: Spot, d: usize) -> bool
+    requires { ⌜ d < 4 ⌝ }
+    requires { ⌜ Placed at ⌝ }
+    ensures { λ r. ⌜ ((s : ℕ) → At width s at → s < height * width → Decides r (Stays width height s d)) ⌝ }
+{
+    let shift = shift_of(d);
+    let down = at.row + shift.row;
+    if down == 0 {
+        return false;
+    }
+    if height < down {
+        return false;
+    }
+    let right = at.column + shift.column;
+    if right == 0 {
+        return false;
+    }
+    right <= width
+}
+
+// The spot that a move from a spot leads to, where it stays in the plan.
+pub fn moved(at: Spot, d: usize) -> Spot
+    requires { ⌜ (d < 4) × Placed at ⌝ }
+    requires { ⌜ (1 ≤ at .row + rowStep d) × (1 ≤ at .column + columnStep d) ⌝ }
+    ensures { λ r. ⌜ (r .row + 1 ≡ at .row + rowStep d) × (r .column + 1 ≡ at .column + columnStep d) ⌝ }
+{
+    let shift = shift_of(d);
+    Spot {
+        row: at.row + shift.row - 1,
+        column: at.column + shift.column - 1,
+    }
+}
+
+// The cell that a move enters which stays in the plan.
+pub fn entered(width: usize, cell: usize, d: usize) -> usize
+    requires { ⌜ d < 4 ⌝ }
+    requires { ⌜ (width ≤ 64) × (cell < 4096) × (width + 1 ≤ cell + rowStep d * width + columnStep d) ⌝ }
+    ensures { λ r. ⌜ r ≡ enteredBy width cell d ⌝ }
+{
+    let shift = shift_of(d);
+    cell + shift.row * width + shift.column - (width + 1)
+}
+
+// The difference of two numbers.
+fn gap(a: usize, b: usize) -> usize
+    requires { ⌜ (a < 64) × (b < 64) ⌝ }
+    ensures { λ r. ⌜ (r ≡ apart a b) × (r < 64) ⌝ }
+{
+    if a < b {
+        return b - a;
+    }
+    a - b
+}
+
+// The estimate between two spots.
+pub fn estimate(a: Spot, b: Spot) -> usize
+    requires { ⌜ Placed a × Placed b ⌝ }
+    ensures { λ r. ⌜ r ≡ between a b ⌝ }
+{
+    gap(a.row, b.row) + gap(a.column, b.column)
+}
+
+// Is this byte a cost, or shut?
+pub fn is_byte(b: u8) -> bool
+    ensures { λ r. ⌜ Decides r (IsByte b) ⌝ }
+{
+    if b == 0 {
+        return false;
+    }
+    if b <= 250 {
+        return true;
+    }
+    b == 255
+}
+
+// An open move's other end and its cost, if it is open.
+pub enum Reach {
+    Shut,
+    To(usize, u8),
+}
+
+// The open move out of cell u in direction d. A move that would leave an obedient plan is shut, so its byte alone tells.
+pub fn move_out(width: usize, height: usize, plan: &[u8], u: usize, d: usize) -> Reach
+    requires { ⌜ Obeys (planOf width height (now plan)) ⌝ }
+    requires { ⌜ (u < height * width) × (d < 4) ⌝ }
+    ensures { λ r. ⌜ listed (opposite d + 1) r ≡ outBy (planOf width height (now (plan .entry))) u d ⌝ }
+{
+    let cost = plan[4 * u + d];
+    if cost == 255 {
+        return Reach::Shut;
+    }
+    Reach::To(entered(width, u, d), cost)
+}
+
+// The open move into cell s from its neighbour in direction d. Where there is none, the cell that the sum names has a shut move here, or is no cell.
+pub fn move_into(width: usize, height: usize, plan: &[u8], s: usize, d: usize) -> Reach
+    requires { ⌜ Obeys (planOf width height (now plan)) ⌝ }
+    requires { ⌜ (s < height * width) × (d < 4) ⌝ }
+    ensures { λ r. ⌜ listed (d + 1) r ≡ intoBy (planOf width height (now (plan .entry))) s d ⌝ }
+{
+    let shift = shift_of(d);
+    let sum = s + shift.row * width + shift.column;
+    if sum <= width {
+        return Reach::Shut;
+    }
+    let u = sum - (width + 1);
+    let at = 4 * u + (d + 2) % 4;
+    if plan.len() <= at {
+        return Reach::Shut;
+    }
+    let cost = plan[at];
+    if cost == 255 {
+        return Reach::Shut;
+    }
+    Reach::To(u, cost)
+}
+
+// Is the byte of the move from cell u in direction d 255 if the move would leave the plan?
+fn edge_holds(width: usize, height: usize, plan: &[u8], u: usize, at: Spot, d: usize) -> bool
+    requires { ⌜ length (now plan) ≡ 4 * (height * width) ⌝ }
+    requires { ⌜ (u < height * width) × (d < 4) × (height * width ≤ 4096) ⌝ }
+    requires { ⌜ Placed at × At width u at ⌝ }
+    ensures { λ r. ⌜ Decides r (Edge (planOf width height (now (plan .entry))) u d) ⌝ }
+{
+    if stays_in(width, height, at, d) {
+        return true;
+    }
+    plan[4 * u + d] == 255
+}
+
+// Has every move that would leave the plan byte 255? The walk is left at the first cell and direction at fault.
+pub fn edges_hold(width: usize, height: usize, plan: &[u8]) -> bool
+    requires { ⌜ Size width height ⌝ }
+    requires { ⌜ length (now plan) ≡ 4 * (height * width) ⌝ }
+    ensures { λ r. ⌜ Decides r (Edges (planOf width height (now (plan .entry)))) ⌝ }
+{
+    let cells = height * width;
+    let mut at = Spot { row: 0, column: 0 };
+    let mut ok = true;
+    'cells: for u in 0..cells {
+        for d in 0..4 {
+            if !edge_holds(width, height, plan, u, at, d) {
+                ok = false;
+                break 'cells;
+            }
+        }
+        at = onward(width, at);
+    }
+    ok
+}
+
+// Is every byte of a plan a cost or shut? The walk is left at the first byte at fault.
+pub fn bytes_hold(width: usize, height: usize, plan: &[u8]) -> bool
+    requires { ⌜ length (now plan) ≡ 4 * (height * width) ⌝ }
+    ensures { λ r. ⌜ Decides r (Bytes (planOf width height (now (plan .entry)))) ⌝ }
+{
+    let mut ok = true;
+    'bytes: for i in 0..plan.len() {
+        if !is_byte(plan[i]) {
+            ok = false;
+            break 'bytes;
+        }
+    }
+    ok
+}

@@ -1,0 +1,36 @@
+-- One entry under place i, or the lesser of two.
+use mathlib.Core.Path.{sym, _∙_}
+use native.Mathlib.Omega.{arith}
+use Rattle.queue.proofs.OrderLaws.{before-order}
+use Rattle.queue.proofs.HeapLaws.{lesser-left, lesser-right}
+use Rattle.queue.proofs.SiftLaws.{may-compare}
+use borrow.Author.Needs.{needs}
+use Rattle.queue.proofs.lesser_under.Statement.{statement}
+use Rattle.queue.proofs.lesser_under.Tie as tie
+
+add-left : tie.Need-add-left
+add-left c = search needs
+
+add-left-2 : tie.Need-add-left-2
+add-left-2 c = search needs
+
+add-right : tie.Need-add-right
+add-right c = search needs
+
+place-before-requires : tie.Need-place-before-requires
+place-before-requires c κs = may-compare (c .before .before .before .before .pre .0) (c .if1 .taken) (c .before .before .before .before .pre .1)
+
+returns : tie.Need-returns
+returns c = lesser-right (before-order _ _ _) (c .before .before .if1 .taken) (sym (c .before .place-before .ensures) ∙ c .if2 .taken)
+
+returns-2 : tie.Need-returns-2
+returns-2 c =
+    lesser-left (before-order _ _ _) (c .before .before .before .before .before .before .pre .1) (λ b. sym (c .before .place-before .ensures) ∙ c .if2 .left)
+
+returns-3 : tie.Need-returns-3
+returns-3 c = lesser-left (before-order _ _ _) (c .before .before .before .before .pre .1) (λ b. absurd (omega arith))
+
+pub lesser-under-spec : {M : Type 1} → statement M
+lesser-under-spec =
+    tie.close
+    (tie.spec add-left add-left-2 add-right place-before-requires returns returns-2 returns-3)

@@ -1,0 +1,90 @@
+-- The new entry stands at the end of the list and settles from there.
+use mathlib.Core.Path.{refl, sym, _∙_}
+use lib.ListN.{length-set}
+use Rattle.queue.proofs.CaseLaws.{never}
+use Rattle.queue.proofs.SiftLaws.{tables-as}
+use Rattle.queue.proofs.CallLaws.{put-in-room, put-in-loose, put-in-members, done}
+use borrow.Author.Needs.{needs}
+use Rattle.queue.proofs.put_in.Statement.{statement}
+use Rattle.queue.proofs.put_in.Tie as tie
+
+mul-k1 : tie.Need-mul-k1
+mul-k1 c = search needs
+
+slice-write-k1 : tie.Need-slice-write-k1
+slice-write-k1 c = search needs
+
+mul-k2 : tie.Need-mul-k2
+mul-k2 c = search needs
+
+slice-write-k2 : tie.Need-slice-write-k2
+slice-write-k2 c = search needs
+
+cast-place : tie.Need-cast-place
+cast-place c = search needs
+
+mul-place : tie.Need-mul-place
+mul-place c = search needs
+
+slice-write-place : tie.Need-slice-write-place
+slice-write-place c = search needs
+
+cast-list : tie.Need-cast-list
+cast-list c = search needs
+
+mul-list : tie.Need-mul-list
+mul-list c = search needs
+
+slice-write-list : tie.Need-slice-write-list
+slice-write-list c = let h = c .before .before .before .before .pre in put-in-room (h .0) (h .1 .0) (h .1 .1)
+
+add-settle : tie.Need-add-settle
+add-settle c = search needs
+
+settle-requires : tie.Need-settle-requires
+settle-requires c κs = let h = c .before .before .before .before .before .before .before .before .pre in put-in-loose (h .0) (h .1 .0) (h .1 .1) _ _
+
+add-result : tie.Need-add-result
+add-result c = search needs
+
+same-length : tie.Need-same-length
+same-length c = search needs
+
+same-length-2 : tie.Need-same-length-2
+same-length-2 c = search needs
+
+same-length-3 : tie.Need-same-length-3
+same-length-3 c = c .before .before .before .before .settle .ensures .0 .agree .lengthPlace ∙ simp length-set (sym (c .before .before .before .before .before .before .before .before .before .before .before .before .before .pre .0 .tables .agree .lengthPlace))
+
+same-length-4 : tie.Need-same-length-4
+same-length-4 c = c .before .before .before .before .settle .ensures .0 .agree .lengthList ∙ simp length-set
+
+returns : tie.Need-returns
+returns c =
+    let h = c .before .before .before .before .before .before .before .before .before .before .before .before .before .pre in
+    let s = c .before .before .before .before .settle .ensures in
+    let members = s .1 .0 ∙ put-in-members (h .0) (h .1 .0) (h .1 .1) in
+    (refl, done (h .0) (h .1 .0) (λ z. absurd (never refl z)) (tables-as (s .0) (simp length-set)) members (s .1 .1))
+
+pub put-in-spec : {M : Type 1} → statement M
+put-in-spec =
+    tie.close
+    (tie.spec
+    mul-k1
+    slice-write-k1
+    mul-k2
+    slice-write-k2
+    cast-place
+    mul-place
+    slice-write-place
+    cast-list
+    mul-list
+    slice-write-list
+    add-settle
+    settle-requires
+    add-result
+    same-length
+    same-length-2
+    same-length-3
+    same-length-4
+    returns)

@@ -1,0 +1,44 @@
+-- Inner notions, not part of the queue's promise: what its private functions promise each other while one entry is on its way to its place.
+use mathlib.Core.Path.{_≡_}
+use mathlib.Core.Bool.{Bool, false}
+use mathlib.Core.List.{List}
+use Prim.Native.Nat.{ℕ, _≤_, _<_}
+use lib.ListN.{getD, set, length}
+use Rattle.queue.specs.Queue.{Under}
+
+-- The list is a binary heap but for the entry at place i, which may belong higher or lower.
+pub record Loose (lt : ℕ → ℕ → Bool) (count i : ℕ) (list : List ℕ) : Type 0 where
+  pub inside : i < count
+  pub off : (x y : ℕ) → Under x y → y < count → (x ≡ i → ⊥) → (y ≡ i → ⊥) → lt (getD list y 0) (getD list x 0) ≡ false
+  -- The entries under place i belong under the entry above it.
+  pub over : (x y : ℕ) → Under x i → Under i y → y < count → lt (getD list y 0) (getD list x 0) ≡ false
+
+-- The same, and the entry at place i can belong lower only.
+pub record Low (lt : ℕ → ℕ → Bool) (count i : ℕ) (list : List ℕ) : Type 0 where
+  pub loose : Loose lt count i list
+  pub up : (x : ℕ) → Under x i → lt (getD list i 0) (getD list x 0) ≡ false
+
+-- The two tables after the entries at places i and j were exchanged.
+abbrev pub placeAfter : ℕ → ℕ → List ℕ → List ℕ → List ℕ
+placeAfter i j place list = set (set place (getD list j 0) i) (getD list i 0) j
+
+abbrev pub listAfter : ℕ → ℕ → List ℕ → List ℕ
+listAfter i j list = set (set list i (getD list j 0)) j (getD list i 0)
+
+-- Cells a and b can be compared.
+pub record Keyed (width : ℕ) (k1 k2 : List ℕ) (a b : ℕ) : Type 0 where
+  pub wide : 0 < width
+  pub lengths : length k2 ≡ length k1
+  pub one : a < length k1
+  pub other : b < length k1
+
+-- Any two entries of the list can be compared.
+pub record Compares (width count : ℕ) (k1 k2 list : List ℕ) : Type 0 where
+  pub long : count ≤ length list
+  pub keyed : (x y : ℕ) → x < count → y < count → Keyed width k1 k2 (getD list x 0) (getD list y 0)
+
+-- Place m is right under place i, and no entry there comes before its entry.
+pub record Lesser (lt : ℕ → ℕ → Bool) (count i m : ℕ) (list : List ℕ) : Type 0 where
+  pub under : Under i m
+  pub inside : m < count
+  pub least : (y : ℕ) → Under i y → y < count → lt (getD list y 0) (getD list m 0) ≡ false

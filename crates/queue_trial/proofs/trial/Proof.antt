@@ -1,0 +1,39 @@
+-- What is cleared is an empty queue.
+use native.Mathlib.Omega.{arith}
+use Rattle.queue.proofs.QueueLaws.{heap-own}
+use borrow.Author.Needs.{needs}
+use Rattle.queue_trial.proofs.trial.Statement.{statement}
+use Rattle.queue_trial.proofs.trial.Tie as tie
+
+clear-requires : tie.Need-clear-requires
+clear-requires c κs = search needs
+
+exercise-requires : tie.Need-exercise-requires
+exercise-requires c κs = let h = c .before .before .before .before .before .before .before .before .before .before .before .before .clear .ensures in (heap-own h, omega (arith, c .before .before .before .before .before .before .before .before .before .before .before .before .before .before .before .before .before .before .before .before .before .pre .1 .1, h .tables .agree .lengthList))
+
+same-length : tie.Need-same-length
+same-length c = search needs
+
+same-length-2 : tie.Need-same-length-2
+same-length-2 c = search needs
+
+same-length-3 : tie.Need-same-length-3
+same-length-3 c = search needs
+
+same-length-4 : tie.Need-same-length-4
+same-length-4 c = search needs
+
+returns : tie.Need-returns
+returns c = search needs
+
+pub trial-spec : {M : Type 1} → statement M
+trial-spec =
+    tie.close
+    (tie.spec
+    clear-requires
+    exercise-requires
+    same-length
+    same-length-2
+    same-length-3
+    same-length-4
+    returns)

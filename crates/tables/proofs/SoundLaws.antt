@@ -1,0 +1,258 @@
+-- Tables are sound exactly if the record's numbers and every cell obey the check's rules.
+use mathlib.Core.Path.{_≡_, refl, sym, ap, subst, _∙_}
+use mathlib.Core.Bool.{Bool, true, false, cond}
+use mathlib.Core.Logic.{_⊎_, inl, inr, ⊎-elim, _≢_}
+use mathlib.Core.List.{List}
+use Prim.Native.Nat.{ℕ, _+_, _-_, _*_, _≤_, _<_, min}
+use native.Mathlib.Omega.{arith}
+use native.Mathlib.Decide.{ℕ-discrete, decLt}
+use lib.Dec.{eqb}
+use lib.ListN.{getD, length}
+use borrow.Author.Tests.{eq-eqb, ne-eqb}
+use Rattle.method.specs.Numbers.{infinite, mostSearches, growth}
+use Rattle.method.specs.Graph.{Graph, Comes}
+use Rattle.method.specs.Tables.{Via, Least, keyNumber, storedKey, lesser, firstKey, calculatedKey}
+use Rattle.method.specs.Session.{huntOf}
+use Rattle.method.proofs.Entries.{first-finite}
+use Rattle.queue.specs.Queue.{absent, Heap}
+use Rattle.queue.proofs.MemberLaws.{length-members, member-at, missing, is-absent, member-place, place-member}
+use Rattle.queue.proofs.RuleLaws.{heap-of-rules, entry-rule, cell-rule}
+use Rattle.plan.specs.Directions.{opposite}
+use Rattle.plan.specs.Cells.{Size, Stays, stays, entered, estimate}
+use Rattle.plan.specs.Costs.{Plan, byte, shut, IsCost, IsByte, Bytes, Edges, Obeys}
+use Rattle.plan.proofs.DirectionLaws.{opposes}
+use Rattle.plan.proofs.CellLaws.{enters}
+use Rattle.plan.proofs.GridLaws.{Open, into-is, into-has}
+use Rattle.plan.proofs.MoveLaws.{area, cost-of, not-a-cost}
+use Rattle.tables.specs.declared.Session.{Session}
+use Rattle.tables.specs.Lent.{Tables, Fits, cells, floor, graph, session, core}
+use Rattle.tables.specs.Sound.{Sound}
+use Rattle.tables.specs.Rules.{most, Numbers, claimed, SumRule, WayRule, OwnRule, NotAbove, KeyRule, CellRules}
+
+claimed-other : {hunter u : ℕ} (r : ℕ) → u ≢ hunter → claimed hunter u r ≡ r
+unfolding claimed
+claimed-other r n = simp (ne-eqb _ _ n)
+
+claimed-own : {hunter u : ℕ} (r : ℕ) → u ≡ hunter → claimed hunter u r ≡ 0
+unfolding claimed
+claimed-own r e = simp (eq-eqb _ _ e)
+
+-- the order of key numbers is that of the pairs
+not-above-number : (a b c d : ℕ) → b < 4294967296 → NotAbove a b c d → keyNumber a b ≤ keyNumber c d
+not-above-number a b c d l (inl h) = omega arith
+not-above-number a b c d l (inr h) = omega (arith, h)
+
+number-not-above : (a b c d : ℕ) → d < 4294967296 → keyNumber a b ≤ keyNumber c d → NotAbove a b c d
+number-not-above a b c d l h = at (decLt a c)
+  where
+    at : Dec (a < c) → NotAbove a b c d
+    at (yes k) = inl k
+    at (no k) = inr (omega arith, omega arith)
+
+-- the numbers of a table of 32 bits
+abbrev pub Words : List ℕ → Type 0
+Words l = (u : ℕ) → getD l u 0 < 4294967296
+
+module _ (s : Session) (t : Tables) (z : Size (s .width) (s .height)) (fit : Fits (cells s) t) (rhs32 : Words (t .rhs)) (k32 : Words (t .k2)) where
+  p : Plan
+  p = floor s (t .plan)
+
+  member-false : {u : ℕ} → u < cells s → getD (t .place) u 0 ≡ absent → getD (core t .queued) u false ≡ false
+  member-false l a = member-at (t .place) _ (omega (arith, fit .place)) ∙ missing a
+
+  false-member : {u : ℕ} → u < cells s → getD (core t .queued) u false ≡ false → getD (t .place) u 0 ≡ absent
+  false-member l e = is-absent (sym (member-at (t .place) _ (omega (arith, fit .place))) ∙ e)
+
+  -- the calculated key of a cell whose g and rhs differ
+  key-of : (u : ℕ) → getD (t .g) u 0 ≤ infinite → getD (t .g) u 0 ≢ getD (t .rhs) u 0
+      → firstKey (huntOf (graph s t) (session s)) u (lesser (core t) u) ≡ lesser (core t) u + estimate (s .width) u (s .goal) + s .km
+  key-of u l n = first-finite (huntOf (graph s t) (session s)) u (lesser (core t) u) (omega (arith, rhs32 u))
+
+  module _ (N : Numbers s) (C : (u : ℕ) → u < cells s → CellRules s t u) where
+    way : (u d : ℕ) → u < cells s → d < 4 → WayRule (floor s (t .plan)) (t .g) (claimed (s .origin) u (getD (t .rhs) u 0)) (getD (t .parent) u 0) u d
+    way u d l ld = C u l .ways d ld
+
+    own : (u : ℕ) → u < cells s → OwnRule (most s) (s .origin) u (getD (t .g) u 0) (getD (t .rhs) u 0) (getD (t .parent) u 0)
+    own u l = C u l .alone .value .own
+
+    key : (u : ℕ) → u < cells s → KeyRule (getD (t .place) u 0) (getD (t .k1) u 0) (getD (t .k2) u 0) (getD (t .g) u 0) (getD (t .rhs) u 0) (estimate (s .width) u (s .goal)) (s .km)
+    key u l = C u l .alone .value .key
+
+    bytes : Bytes (floor s (t .plan))
+    bytes u d l ld = at (stays (s .width) (s .height) u d)
+      where
+        at : Dec (Stays (s .width) (s .height) u d) → IsByte (byte (floor s (t .plan)) u d)
+        at (yes m) = way u d l ld .stays-in m .0
+        at (no n) = inr (way u d l ld .leaves n .0)
+
+    edges : Edges (floor s (t .plan))
+    edges u d l ld n = way u d l ld .leaves n .0
+
+    g-finite : (u : ℕ) → u < cells s → getD (t .g) u 0 ≤ infinite
+    g-finite u l = ⊎-elim (λ (e : getD (t .g) u 0 ≡ infinite). omega arith) (λ (k : getD (t .g) u 0 ≤ most s). omega (arith, k, N .searches)) (own u l .g-le)
+
+    module _ (u : ℕ) (l : u < cells s) (n : u ≢ s .origin) where
+      sums : (d : ℕ) → d < 4 → (m : Stays (s .width) (s .height) u d)
+          → SumRule (byte (floor s (t .plan)) (entered (s .width) u d) (opposite d)) (getD (t .g) (entered (s .width) u d) 0) (getD (t .rhs) u 0) (getD (t .parent) u 0) (d + 1)
+      sums d ld m = rw (claimed-other (getD (t .rhs) u 0) n) at (way u d l ld .stays-in m .1)
+
+      parent-gives : (d : ℕ) → d < 4 → getD (t .parent) u 0 ≡ d + 1 → getD (t .rhs) u 0 ≢ infinite
+          → (getD (t .rhs) u 0 < infinite) × Via (graph s t) (λ w. getD (t .g) w 0) u (getD (t .rhs) u 0) (getD (t .parent) u 0)
+      parent-gives d ld e f = at (stays (s .width) (s .height) u d)
+        where
+          at : Dec (Stays (s .width) (s .height) u d) → (getD (t .rhs) u 0 < infinite) × Via (graph s t) (λ w. getD (t .g) w 0) u (getD (t .rhs) u 0) (getD (t .parent) u 0)
+          at (no off) = absurd (way u d l ld .leaves off .1 e)
+          at (yes m) =
+              let R = sums d ld m in
+              let v = entered (s .width) u d in
+              let c = byte (floor s (t .plan)) (entered (s .width) u d) (opposite d) in
+              let unshut : c ≢ shut = λ q. R .closed q e in
+              let is-cost = cost-of (bytes v (opposite d) (enters (z .wide) m .inside) (opposes d ld .small)) unshut in (
+                omega (arith, rhs32 u),
+                record {
+                  from = v;
+                  cost = c;
+                  comes = into-has (floor s (t .plan)) (z .wide) u (getD (t .parent) u 0) v c (record { direction = d; small = ld; named = e; stays-in = m; from = refl; costs = refl; is-cost = is-cost });
+                  sum = R .gives unshut e;
+                },
+              )
+
+      least : Least (graph s t) (λ w. getD (t .g) w 0) u (getD (t .rhs) u 0) (getD (t .parent) u 0)
+      least = record {
+        le-inf = omega (arith, rhs32 u);
+        least = λ k w c i.
+            let o = into-is (floor s (t .plan)) (z .wide) u k w c i in
+            let ec : c ≡ byte (floor s (t .plan)) (entered (s .width) u (o .direction)) (opposite (o .direction)) = o .costs ∙ ap (λ x. byte (floor s (t .plan)) x (opposite (o .direction))) (o .from) in
+            omega (arith, sums (o .direction) (o .small) (o .stays-in) .least (λ q. not-a-cost (ec ∙ q) (o .is-cost)), ec, ap (λ x. getD (t .g) x 0) (o .from));
+        reached = at (ℕ-discrete (getD (t .parent) u 0) 0);
+      }
+        where
+          at : Dec (getD (t .parent) u 0 ≡ 0) → ((getD (t .rhs) u 0 ≡ infinite) × (getD (t .parent) u 0 ≡ 0)) ⊎ ((getD (t .rhs) u 0 < infinite) × Via (graph s t) (λ w. getD (t .g) w 0) u (getD (t .rhs) u 0) (getD (t .parent) u 0))
+          at (yes q) = inl (own u l .unreached n q, q)
+          at (no q) = let r = own u l .reached n q in inr (parent-gives (getD (t .parent) u 0 - 1) (omega (arith, r .0)) (omega arith) (r .1))
+
+    pub sound-of-rules : Sound s t
+    sound-of-rules = record {
+      plan = record { size = z; sized = fit .plan; bytes = bytes; edges = edges };
+      numbers = record {
+        sized = record { g = fit .g; rhs = fit .rhs; parent = fit .parent; k1 = fit .k1; k2 = fit .k2; queued = length-members (t .place) ∙ fit .place };
+        hunter-in = N .hunter;
+        target-in = N .target;
+        last-hunter-in = N .origin;
+        last-target-in = N .goal;
+        hunter-finite = omega (arith, hunter .0, N .searches);
+        hunter-parent = hunter .1;
+        least = least;
+        in-queue = λ u l n. place-member (t .place) u (omega (arith, fit .place)) (key u l .queued n .0);
+        not-in-queue = λ u l e. member-false l (key u l .idle e);
+        keys = keys;
+        absent = λ u l e. heap .blank u l (false-member l e);
+        searches-le = N .searches;
+        km-le = N .km;
+        g-le = λ u l. own u l .g-le;
+        hunter-le = hunter .0;
+      };
+      heap = heap;
+    }
+      where
+        hunter : (getD (t .rhs) (s .origin) 0 ≤ most s) × (getD (t .parent) (s .origin) 0 ≡ 0)
+        hunter = own (s .origin) (N .origin) .hunter-le refl
+
+        heap : Heap (s .width) (cells s) (s .count) (t .k1) (t .k2) (t .place) (t .list)
+        heap = heap-of-rules (z .wide) (area z) (N .count) (record { in1 = fit .k1; in2 = fit .k2; inPlace = fit .place; inList = fit .list }) (λ i l. C i l .alone .entry) (λ c l. C c l .alone .cell)
+
+        keys : (u : ℕ) → u < cells s → getD (core t .queued) u false ≡ true → storedKey (core t) u ≤ calculatedKey (huntOf (graph s t) (session s)) (core t) u
+        keys u l q =
+            let there = member-place (t .place) u q .1 in
+            let n : getD (t .g) u 0 ≢ getD (t .rhs) u 0 = λ e. there (key u l .idle e) in
+            rw (key-of u (g-finite u l) n) (not-above-number _ _ _ _ (k32 u) (key u l .queued n .1))
+
+  module _ (S : Sound s t) where
+    pub numbers-rule : Numbers s
+    numbers-rule = record {
+      hunter = S .numbers .hunter-in;
+      target = S .numbers .target-in;
+      origin = S .numbers .last-hunter-in;
+      goal = S .numbers .last-target-in;
+      count = S .heap .tables .agree .fits;
+      searches = S .numbers .searches-le;
+      km = S .numbers .km-le;
+    }
+
+    g-small : (u : ℕ) → u < cells s → getD (t .g) u 0 ≤ infinite
+    g-small u l = ⊎-elim (λ (e : getD (t .g) u 0 ≡ infinite). omega arith) (λ (k : getD (t .g) u 0 ≤ most s). omega (arith, k, S .numbers .searches-le)) (S .numbers .g-le u l)
+
+    -- the parent's move
+    parent-move : (u : ℕ) → u < cells s → u ≢ s .origin → getD (t .parent) u 0 ≢ 0
+        → (getD (t .rhs) u 0 < infinite) × (v : Via (graph s t) (λ w. getD (t .g) w 0) u (getD (t .rhs) u 0) (getD (t .parent) u 0)) × Open (floor s (t .plan)) u (getD (t .parent) u 0) (v .from) (v .cost)
+    parent-move u l n q = at (S .numbers .least u l n .reached)
+      where
+        at : ((getD (t .rhs) u 0 ≡ infinite) × (getD (t .parent) u 0 ≡ 0)) ⊎ ((getD (t .rhs) u 0 < infinite) × Via (graph s t) (λ w. getD (t .g) w 0) u (getD (t .rhs) u 0) (getD (t .parent) u 0))
+            → (getD (t .rhs) u 0 < infinite) × (v : Via (graph s t) (λ w. getD (t .g) w 0) u (getD (t .rhs) u 0) (getD (t .parent) u 0)) × Open (floor s (t .plan)) u (getD (t .parent) u 0) (v .from) (v .cost)
+        at (inl x) = absurd (q (x .1))
+        at (inr x) = (x .0, x .1, into-is (floor s (t .plan)) (z .wide) u (getD (t .parent) u 0) (x .1 .from) (x .1 .cost) (x .1 .comes))
+
+    own-rule : (u : ℕ) → u < cells s → OwnRule (most s) (s .origin) u (getD (t .g) u 0) (getD (t .rhs) u 0) (getD (t .parent) u 0)
+    own-rule u l = record {
+      g-le = S .numbers .g-le u l;
+      hunter-le = λ e. (rw e (S .numbers .hunter-le), rw e (S .numbers .hunter-parent));
+      unreached = λ n q. at q (S .numbers .least u l n .reached);
+      reached = λ n q. let m = parent-move u l n q in (omega (arith, m .2 .named, m .2 .small), λ e. omega (arith, m .0));
+    }
+      where
+        at : getD (t .parent) u 0 ≡ 0 → ((getD (t .rhs) u 0 ≡ infinite) × (getD (t .parent) u 0 ≡ 0)) ⊎ ((getD (t .rhs) u 0 < infinite) × Via (graph s t) (λ w. getD (t .g) w 0) u (getD (t .rhs) u 0) (getD (t .parent) u 0)) → getD (t .rhs) u 0 ≡ infinite
+        at q (inl x) = x .0
+        at q (inr x) = absurd (omega (arith, into-is (floor s (t .plan)) (z .wide) u (getD (t .parent) u 0) (x .1 .from) (x .1 .cost) (x .1 .comes) .named))
+
+    key-rule : (u : ℕ) → u < cells s → KeyRule (getD (t .place) u 0) (getD (t .k1) u 0) (getD (t .k2) u 0) (getD (t .g) u 0) (getD (t .rhs) u 0) (estimate (s .width) u (s .goal)) (s .km)
+    key-rule u l = record {
+      idle = λ e. false-member l (S .numbers .not-in-queue u l e);
+      queued = λ n.
+          let q = S .numbers .in-queue u l n in
+          (member-place (t .place) u q .1, number-not-above _ _ _ _ (omega (arith, rhs32 u)) (rw (key-of u (g-small u l) n) at (S .numbers .keys u l q)));
+    }
+
+    -- the move that a parent byte names
+    named-move : (u d : ℕ) → u < cells s → d < 4 → u ≢ s .origin → getD (t .parent) u 0 ≡ d + 1
+        → (m : Stays (s .width) (s .height) u d) × IsCost (byte (floor s (t .plan)) (entered (s .width) u d) (opposite d))
+        × (getD (t .rhs) u 0 ≡ getD (t .g) (entered (s .width) u d) 0 + byte (floor s (t .plan)) (entered (s .width) u d) (opposite d))
+    named-move u d l ld n e =
+        let m = parent-move u l n (λ q. omega arith) in
+        let o = m .2 in
+        let k : o .direction ≡ d = omega (arith, o .named) in
+        let f : m .1 .from ≡ entered (s .width) u d = o .from ∙ ap (entered (s .width) u) k in
+        let c : m .1 .cost ≡ byte (floor s (t .plan)) (entered (s .width) u d) (opposite d) =
+        o .costs ∙ ap (λ x. byte (floor s (t .plan)) x (opposite (o .direction))) f ∙ ap (λ x. byte (floor s (t .plan)) (entered (s .width) u d) (opposite x)) k in
+        (subst (λ x. Stays (s .width) (s .height) u x) k (o .stays-in), subst IsCost c (o .is-cost), omega (arith, m .1 .sum, c, ap (λ x. getD (t .g) x 0) f))
+
+    way-rule : (u d : ℕ) → u < cells s → d < 4 → WayRule (floor s (t .plan)) (t .g) (claimed (s .origin) u (getD (t .rhs) u 0)) (getD (t .parent) u 0) u d
+    way-rule u d l ld = at (ℕ-discrete u (s .origin))
+      where
+        at : Dec (u ≡ s .origin) → WayRule (floor s (t .plan)) (t .g) (claimed (s .origin) u (getD (t .rhs) u 0)) (getD (t .parent) u 0) u d
+        at (yes e) =
+            let q : getD (t .parent) u 0 ≡ 0 = rw e (S .numbers .hunter-parent) in
+            rw (claimed-own (getD (t .rhs) u 0) e) (record {
+              leaves = λ off. (S .plan .edges u d l ld off, λ x. omega arith);
+              stays-in = λ m. (S .plan .bytes u d l ld, record { closed = λ _ x. omega arith; least = λ _. omega arith; gives = λ _ x. absurd (omega arith) });
+            })
+        at (no n) =
+            rw (claimed-other (getD (t .rhs) u 0) n) (record {
+              leaves = λ off. (S .plan .edges u d l ld off, λ x. off (named-move u d l ld n x .0));
+              stays-in = λ m. (
+                S .plan .bytes u d l ld,
+                record {
+                  closed = λ c x. not-a-cost c (named-move u d l ld n x .1);
+                  least = λ c.
+                      let is-cost = cost-of (S .plan .bytes (entered (s .width) u d) (opposite d) (enters (z .wide) m .inside) (opposes d ld .small)) c in
+                      S .numbers .least u l n .least (d + 1) (entered (s .width) u d) (byte (floor s (t .plan)) (entered (s .width) u d) (opposite d))
+                      (into-has (floor s (t .plan)) (z .wide) u (d + 1) (entered (s .width) u d) (byte (floor s (t .plan)) (entered (s .width) u d) (opposite d)) (record { direction = d; small = ld; named = refl; stays-in = m; from = refl; costs = refl; is-cost = is-cost }));
+                  gives = λ c x. named-move u d l ld n x .2;
+                },
+              );
+            })
+
+    pub cell-rules : (u : ℕ) → u < cells s → CellRules s t u
+    cell-rules u l = record {
+      alone = record { entry = entry-rule (S .heap) u l; cell = cell-rule (S .heap) u l; value = record { own = own-rule u l; key = key-rule u l } };
+      ways = λ d ld. way-rule u d l ld;
+    }

@@ -1,0 +1,91 @@
+use borrow.Author.Tests.{not-true, not-false}
+use mathlib.Core.Path.{_∙_}
+use native.Mathlib.Omega.{arith}
+use Rattle.decide.proofs.DecideLaws.{decides-no, refuted}
+use Rattle.plan.proofs.EstimateLaws.{estimate-le}
+use Rattle.plan.proofs.MoveLaws.{placed}
+use Rattle.tables.proofs.WalkLaws.{estimate-at, value-decides}
+use borrow.Author.Needs.{needs}
+use Rattle.tables.proofs.value_holds.Statement.{statement}
+use Rattle.tables.proofs.value_holds.Tie as tie
+
+mul-x : tie.Need-mul-x
+mul-x c = search needs
+
+shared-slice-read-x : tie.Need-shared-slice-read-x
+shared-slice-read-x c = search needs
+
+mul-y : tie.Need-mul-y
+mul-y c = search needs
+
+shared-slice-read-y : tie.Need-shared-slice-read-y
+shared-slice-read-y c = search needs
+
+shared-slice-read-p : tie.Need-shared-slice-read-p
+shared-slice-read-p c = search needs
+
+mul-a : tie.Need-mul-a
+mul-a c = search needs
+
+shared-slice-read-a : tie.Need-shared-slice-read-a
+shared-slice-read-a c = search needs
+
+mul-b : tie.Need-mul-b
+mul-b c = search needs
+
+shared-slice-read-b : tie.Need-shared-slice-read-b
+shared-slice-read-b c = search needs
+
+mul-i : tie.Need-mul-i
+mul-i c = search needs
+
+shared-slice-read-i : tie.Need-shared-slice-read-i
+shared-slice-read-i c = search needs
+
+mul-bound : tie.Need-mul-bound
+mul-bound c = search needs
+
+own-holds-requires : tie.Need-own-holds-requires
+own-holds-requires c κs = search needs
+
+returns : tie.Need-returns
+returns c = decides-no (λ v. refuted (c .before .own-holds .ensures) (not-true _ (c .if1 .taken)) (v .own))
+
+estimate-requires : tie.Need-estimate-requires
+estimate-requires c κs =
+    let p = c .before .before .before .before .before .before .before .before .before .before .before .before .before .before .before .pre in
+    let q = placed (p .0 .0) (p .1 .1 .1 .0) (p .1 .1 .1 .2) in
+    let r = placed (p .0 .0) (p .1 .1 .1 .1) (p .0 .1 .goal) in
+    (record { row = q .0; column = q .1 }, record { row = r .0; column = r .1 })
+
+key-holds-requires : tie.Need-key-holds-requires
+key-holds-requires c κs =
+    let p = c .before .before .before .before .before .before .before .before .before .before .before .before .before .before .before .before .pre in
+    omega (arith, c .estimate .ensures ∙ estimate-at (p .1 .1 .1 .0) (p .1 .1 .1 .1), estimate-le (p .0 .0) _ _ (p .1 .1 .1 .2) (p .0 .1 .goal))
+
+returns-2 : tie.Need-returns-2
+returns-2 c =
+    let p = c .before .before .before .before .before .before .before .before .before .before .before .before .before .before .before .before .before .pre in
+    value-decides (c .before .estimate .ensures ∙ estimate-at (p .1 .1 .1 .0) (p .1 .1 .1 .1)) (c .before .before .before .own-holds .ensures .so (not-false _ (c .before .before .if1 .left))) (c .key-holds .ensures)
+
+pub value-holds-spec : {M : Type 1} → statement M
+value-holds-spec =
+    tie.close
+    (tie.spec
+    mul-x
+    shared-slice-read-x
+    mul-y
+    shared-slice-read-y
+    shared-slice-read-p
+    mul-a
+    shared-slice-read-a
+    mul-b
+    shared-slice-read-b
+    mul-i
+    shared-slice-read-i
+    mul-bound
+    own-holds-requires
+    returns
+    estimate-requires
+    key-holds-requires
+    returns-2)

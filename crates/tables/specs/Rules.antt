@@ -1,0 +1,78 @@
+-- Soundness as the check looks at it: rules that are local to the record, to one cell, or to one cell and direction.
+use mathlib.Core.Path.{_≡_}
+use mathlib.Core.Bool.{Bool, true, false, cond}
+use mathlib.Core.Logic.{_⊎_, _≢_}
+use mathlib.Core.List.{List}
+use Prim.Native.Nat.{ℕ, _+_, _*_, _≤_, _<_, min}
+use lib.Dec.{eqb}
+use lib.ListN.{getD}
+use Rattle.method.specs.Numbers.{infinite, mostEstimate, mostSearches, growth}
+use Rattle.queue.specs.Queue.{absent}
+use Rattle.queue.specs.Rules.{EntryRule, CellRule}
+use Rattle.plan.specs.Directions.{opposite}
+use Rattle.plan.specs.Cells.{Stays, entered, estimate}
+use Rattle.plan.specs.Costs.{Plan, byte, shut, IsByte}
+use Rattle.tables.specs.declared.Session.{Session}
+use Rattle.tables.specs.Lent.{Tables, cells, floor}
+
+-- The greatest finite number after so many searches.
+abbrev pub most : Session → ℕ
+most s = growth * s .searches
+
+-- The record's cells and numbers.
+pub record Numbers (s : Session) : Type 0 where
+  pub hunter : s .hunter < cells s
+  pub target : s .target < cells s
+  pub origin : s .origin < cells s
+  pub goal : s .goal < cells s
+  pub count : s .count ≤ cells s
+  pub searches : s .searches ≤ mostSearches
+  pub km : s .km ≤ mostEstimate * s .searches
+
+-- The rhs that a cell claims to be a least sum; the search's hunter claims nothing, and 0 passes every test.
+unfoldable pub claimed : ℕ → ℕ → ℕ → ℕ
+claimed hunter s rhs = cond (eqb s hunter) 0 rhs
+
+-- The claim r with parent p against the move of byte c from a cell whose g is `far`, where k is the move's parent code.
+pub record SumRule (c far r p k : ℕ) : Type 0 where
+  pub closed : c ≡ shut → p ≢ k
+  pub least : c ≢ shut → r ≤ far + c
+  pub gives : c ≢ shut → p ≡ k → r ≡ far + c
+
+-- Cell s and direction d: the byte of the move, and the claim of s against the move back.
+pub record WayRule (p : Plan) (g : List ℕ) (r parent s d : ℕ) : Type 0 where
+  pub leaves : (Stays (p .width) (p .height) s d → ⊥) → (byte p s d ≡ shut) × (parent ≢ d + 1)
+  pub stays-in : Stays (p .width) (p .height) s d
+      → IsByte (byte p s d) × SumRule (byte p (entered (p .width) s d) (opposite d)) (getD g (entered (p .width) s d) 0) r parent (d + 1)
+
+-- A cell's own numbers: g in its bound; the hunter's rhs in its bound and its parent 0; another cell's parent 0 exactly if its rhs is infinite.
+pub record OwnRule (bound hunter s g r p : ℕ) : Type 0 where
+  pub g-le : (g ≡ infinite) ⊎ (g ≤ bound)
+  pub hunter-le : s ≡ hunter → (r ≤ bound) × (p ≡ 0)
+  pub unreached : s ≢ hunter → p ≡ 0 → r ≡ infinite
+  pub reached : s ≢ hunter → p ≢ 0 → (p ≤ 4) × (r ≢ infinite)
+
+-- Key (a, b) is not above key (c, d), "compared k1 first".
+abbrev pub NotAbove : ℕ → ℕ → ℕ → ℕ → Type 0
+NotAbove a b c d = (a < c) ⊎ ((a ≡ c) × (b ≤ d))
+
+-- A cell's place `at` and stored key (a, b): queued exactly if g ≠ rhs, under a key not above the calculated one; e is the estimate to the target.
+pub record KeyRule (at a b g r e km : ℕ) : Type 0 where
+  pub idle : g ≡ r → at ≡ absent
+  pub queued : g ≢ r → (at ≢ absent) × NotAbove a b (min g r + e + km) (min g r)
+
+-- The rules of cell u by itself.
+pub record ValueRule (s : Session) (g rhs parent k1 k2 place : List ℕ) (u : ℕ) : Type 0 where
+  pub own : OwnRule (most s) (s .origin) u (getD g u 0) (getD rhs u 0) (getD parent u 0)
+  pub key : KeyRule (getD place u 0) (getD k1 u 0) (getD k2 u 0) (getD g u 0) (getD rhs u 0) (estimate (s .width) u (s .goal)) (s .km)
+
+-- .. with the queue's rules of cell u and of place u of the list.
+pub record AloneRule (s : Session) (g rhs parent k1 k2 place list : List ℕ) (u : ℕ) : Type 0 where
+  pub entry : EntryRule (s .width) (cells s) (s .count) k1 k2 place list u
+  pub cell : CellRule (s .count) k1 k2 place list u
+  pub value : ValueRule s g rhs parent k1 k2 place u
+
+-- Every rule of cell u.
+pub record CellRules (s : Session) (t : Tables) (u : ℕ) : Type 0 where
+  pub alone : AloneRule s (t .g) (t .rhs) (t .parent) (t .k1) (t .k2) (t .place) (t .list) u
+  pub ways : (d : ℕ) → d < 4 → WayRule (floor s (t .plan)) (t .g) (claimed (s .origin) u (getD (t .rhs) u 0)) (getD (t .parent) u 0) u d

@@ -1,0 +1,281 @@
+// The session record and the lent tables: the exact check of soundness.
+use plan;
+use plan::Spot;
+use queue;
+ghost use mathlib.Core.Path.{_≡_};
+ghost use mathlib.Core.Logic.{_⊎_};
+ghost use Prim.Native.Nat.{ℕ, _+_, _*_, _<_, _≤_, min};
+ghost use lib.ListN.{length};
+ghost use Rattle.decide.specs.Decides.{Decides};
+ghost use Rattle.queue.specs.Rules.{Lengths};
+ghost use Rattle.plan.specs.Cells.{Size};
+ghost use Rattle.plan.specs.Costs.{planOf};
+ghost use Rattle.plan.specs.Reached.{At, Placed};
+ghost use Rattle.tables.specs.Lent.{cells, given, before, Fits};
+ghost use Rattle.tables.specs.Sound.{Sound};
+ghost use Rattle.tables.specs.Rules.{Numbers, claimed, SumRule, WayRule, OwnRule, KeyRule, ValueRule, AloneRule};
+
+// The session record: the plan's size, hunter and target as placed, those of the last search taken over (origin and goal), km, the queue's count, and the number of searches since the last fresh start.
+#[repr(C)]
+pub struct Session {
+    pub width: usize,
+    pub height: usize,
+    pub hunter: usize,
+    pub target: usize,
+    pub origin: usize,
+    pub goal: usize,
+    pub km: u32,
+    pub count: usize,
+    pub searches: u32,
+}
+
+// Are the record's cells in the plan, and its numbers in their bounds?
+fn numbers_hold(s: Session) -> bool
+    requires { ⌜ Size (s .width) (s .height) ⌝ }
+    ensures { λ r. ⌜ Decides r (Numbers s) ⌝ }
+{
+    let cells = s.height * s.width;
+    if cells <= s.hunter {
+        return false;
+    }
+    if cells <= s.target {
+        return false;
+    }
+    if cells <= s.origin {
+        return false;
+    }
+    if cells <= s.goal {
+        return false;
+    }
+    if cells < s.count {
+        return false;
+    }
+    if 1000 < s.searches {
+        return false;
+    }
+    s.km <= 126 * s.searches
+}
+
+// The rhs that a cell claims to be a least sum; the hunter's claims nothing.
+fn claim(hunter: usize, s: usize, rhs: u32) -> u32
+    ensures { λ r. ⌜ r ≡ claimed hunter s rhs ⌝ }
+{
+    if s == hunter {
+        return 0;
+    }
+    rhs
+}
+
+// Does the claim r with parent p agree with the move of byte c from a cell whose g is far? The sum is taken in 64 bits, so that no content wraps and infinite needs no test.
+fn sum_holds(c: u8, far: u32, r: u32, p: u8, k: usize) -> bool
+    ensures { λ a. ⌜ Decides a (SumRule c far r p k) ⌝ }
+{
+    let parent = p as usize;
+    if c == 255 {
+        return parent != k;
+    }
+    let sum = far as usize + c as usize;
+    let own = r as usize;
+    if parent == k {
+        return own == sum;
+    }
+    own <= sum
+}
+
+// Does the move from cell s in direction d obey the plan's rules, and the claim of s the move back?
+fn way_holds(
+    width: usize,
+    height: usize,
+    plan: &[u8],
+    g: &[u32],
+    r: u32,
+    p: u8,
+    s: usize,
+    at: Spot,
+    d: usize,
+) -> bool
+    requires { ⌜ Size width height ⌝ }
+    requires { ⌜ (length (now g) ≡ height * width) × (length (now plan) ≡ 4 * (height * width)) ⌝ }
+    requires { ⌜ (At width s at) × (s < height * width) × (d < 4) ⌝ }
+    ensures { λ a. ⌜ Decides a (WayRule (planOf width height (now (plan .entry))) (now (g .entry)) r p s d) ⌝ }
+{
+    let b = plan[4 * s + d];
+    if !plan::stays_in(width, height, at, d) {
+        if b != 255 {
+            return false;
+        }
+        return p as usize != d + 1;
+    }
+    if !plan::is_byte(b) {
+        return false;
+    }
+    let v = plan::entered(width, s, d);
+    let c = plan[4 * v + (d + 2) % 4];
+    let far = g[v];
+    sum_holds(c, far, r, p, d + 1)
+}
+
+// Is x infinite or within the bound?
+fn bound_holds(bound: u32, x: u32) -> bool
+    ensures { λ a. ⌜ Decides a ((x ≡ 4294967295) ⊎ (x ≤ bound)) ⌝ }
+{
+    if x <= bound {
+        return true;
+    }
+    x == 4294967295
+}
+
+// Do a cell's own numbers obey their rules?
+fn own_holds(bound: u32, hunter: usize, s: usize, g: u32, r: u32, p: u8) -> bool
+    ensures { λ a. ⌜ Decides a (OwnRule bound hunter s g r p) ⌝ }
+{
+    if !bound_holds(bound, g) {
+        return false;
+    }
+    if s == hunter {
+        if bound < r {
+            return false;
+        }
+        return p == 0;
+    }
+    if p == 0 {
+        return r == 4294967295;
+    }
+    if 4 < p {
+        return false;
+    }
+    r != 4294967295
+}
+
+// The lesser of g and rhs.
+fn lesser(g: u32, rhs: u32) -> u32
+    ensures { λ r. ⌜ r ≡ min g rhs ⌝ }
+{
+    if g < rhs {
+        return g;
+    }
+    rhs
+}
+
+// Is a cell queued exactly if g and rhs differ, under a stored key (a, b) not above the calculated one?
+fn key_holds(at: u16, a: u32, b: u32, g: u32, r: u32, e: usize, km: u32) -> bool
+    requires { ⌜ e ≤ 126 ⌝ }
+    ensures { λ x. ⌜ Decides x (KeyRule at a b g r e km) ⌝ }
+{
+    if g == r {
+        return at == 65535;
+    }
+    if at == 65535 {
+        return false;
+    }
+    let m = lesser(g, r);
+    let first = m as usize + e + km as usize;
+    let stored = a as usize;
+    if stored != first {
+        return stored < first;
+    }
+    b <= m
+}
+
+// Does cell u, which stands at `at`, obey its own rules? The search's target stands at `aim`.
+fn value_holds(
+    s: Session,
+    g: &[u32],
+    rhs: &[u32],
+    parent: &[u8],
+    k1: &[u32],
+    k2: &[u32],
+    place: &[u16],
+    u: usize,
+    at: Spot,
+    aim: Spot,
+) -> bool
+    requires { ⌜ Size (s .width) (s .height) × Numbers s ⌝ }
+    requires { ⌜ (length (now g) ≡ cells s) × (length (now rhs) ≡ cells s) × (length (now parent) ≡ cells s) ⌝ }
+    requires { ⌜ (length (now k1) ≡ cells s) × (length (now k2) ≡ cells s) × (length (now place) ≡ cells s) ⌝ }
+    requires { ⌜ (At (s .width) u at) × (At (s .width) (s .goal) aim) × (u < cells s) ⌝ }
+    ensures { λ a. ⌜ Decides a (ValueRule s (now (g .entry)) (now (rhs .entry)) (now (parent .entry)) (now (k1 .entry)) (now (k2 .entry)) (now (place .entry)) u) ⌝ }
+{
+    let x = g[u];
+    let y = rhs[u];
+    let p = parent[u];
+    let a = k1[u];
+    let b = k2[u];
+    let i = place[u];
+    let bound = 1024250 * s.searches;
+    if !own_holds(bound, s.origin, u, x, y, p) {
+        return false;
+    }
+    let e = plan::estimate(at, aim);
+    key_holds(i, a, b, x, y, e, s.km)
+}
+
+// Does it obey the queue's rules too, and does place u of the list?
+fn alone_holds(
+    s: Session,
+    g: &[u32],
+    rhs: &[u32],
+    parent: &[u8],
+    k1: &[u32],
+    k2: &[u32],
+    place: &[u16],
+    list: &[u16],
+    u: usize,
+    at: Spot,
+    aim: Spot,
+) -> bool
+    requires { ⌜ Size (s .width) (s .height) × Numbers s ⌝ }
+    requires { ⌜ (length (now g) ≡ cells s) × (length (now rhs) ≡ cells s) × (length (now parent) ≡ cells s) ⌝ }
+    requires { ⌜ Lengths (cells s) (now k1) (now k2) (now place) (now list) ⌝ }
+    requires { ⌜ (At (s .width) u at) × (At (s .width) (s .goal) aim) × (u < cells s) ⌝ }
+    ensures { λ a. ⌜ Decides a (AloneRule s (now (g .entry)) (now (rhs .entry)) (now (parent .entry)) (now (k1 .entry)) (now (k2 .entry)) (now (place .entry)) (now (list .entry)) u) ⌝ }
+{
+    if !queue::entry_holds(s.width, k1, k2, place, list, s.count, u) {
+        return false;
+    }
+    if !queue::cell_holds(k1, k2, place, list, s.count, u) {
+        return false;
+    }
+    value_holds(s, g, rhs, parent, k1, k2, place, u, at, aim)
+}
+
+// Are the tables sound? One walk over cells and directions, left at the first at fault; row and column are carried along.
+pub fn is_sound(
+    s: Session,
+    plan: &[u8],
+    g: &[u32],
+    rhs: &[u32],
+    parent: &[u8],
+    k1: &[u32],
+    k2: &[u32],
+    place: &[u16],
+    list: &[u16],
+) -> bool
+    requires { ⌜ Size (s .width) (s .height) ⌝ }
+    requires { ⌜ Fits (cells s) (given plan g rhs parent k1 k2 place list) ⌝ }
+    ensures { λ r. ⌜ Decides r (Sound s (before plan g rhs parent k1 k2 place list)) ⌝ }
+{
+    if !numbers_hold(s) {
+        return false;
+    }
+    let cells = s.height * s.width;
+    let aim = plan::spot_of(s.width, s.goal);
+    let mut at = Spot { row: 0, column: 0 };
+    let mut ok = true;
+    'cells: for u in 0..cells {
+        if !alone_holds(s, g, rhs, parent, k1, k2, place, list, u, at, aim) {
+            ok = false;
+            break 'cells;
+        }
+        let r = claim(s.origin, u, rhs[u]);
+        let p = parent[u];
+        for d in 0..4 {
+            if !way_holds(s.width, s.height, plan, g, r, p, u, at, d) {
+                ok = false;
+                break 'cells;
+            }
+        }
+        at = plan::onward(s.width, at);
+    }
+    ok
+}
