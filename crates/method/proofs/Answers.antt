@@ -8,12 +8,12 @@ use native.Mathlib.Decide.{ℕ-discrete, decLe}
 use lib.ListN.{length, getD}
 use Rattle.method.specs.Numbers.{infinite, mostCost}
 use Rattle.method.specs.Graph.{Move, move, Graph, Comes, GraphLaws, Hunt}
-use Rattle.method.specs.Tables.{Tables, gAt, rhsAt, parentAt, storedKey, choose, Via}
+use Rattle.method.specs.Tables.{Tables, gAt, rhsAt, parentAt, storedKey}
 use Rattle.method.specs.Session.{parentCell, wayFrom}
 use Rattle.method.specs.Walk.{Chain, stay, go, NoChain, Cheapest}
 use Rattle.method.proofs.Counting.{lack, lack-le, lack-no, lack-keep, lack-gain, sum, sum-bound, sum-drop}
-use Rattle.method.proofs.Choices.{choose-yes, choose-is}
-use Rattle.method.proofs.Notions.{Stands, keyAt, key, Inconsistent, Right}
+use Rattle.method.proofs.Choices.{choose-is}
+use Rattle.method.proofs.Notions.{Stands, keyAt, key, Inconsistent, ReachedAt, Right}
 
 -- The loop has stopped: rhs of the target is not above its g, and no stored key is below the target's finite key.
 pub record Stopped (H : Hunt) (T : Tables) : Type 0 where
@@ -27,14 +27,15 @@ Room H T = (s : ℕ) → s < H .graph .cells → gAt T s < infinite → gAt T s 
 -- ---- following parents
 
 parent-list : (k w c : ℕ) (l : List Move) → ((w′ c′ : ℕ) → List·Memᴰ (move k w′ c′) l → w′ ≡ w) → List·Memᴰ (move k w c) l → parentCell l k ≡ w
-unfolding parentCell choose
+unfolding parentCell
 parent-list k w c [] f m = absurd (List·Memᴰ·not-nil m)
-parent-list k w c (b ∷ l) f m = at (λ m′. parent-list k w c l (λ w′ c′ x. f w′ c′ (List·Memᴰ·tail x)) m′) (List·Memᴰ·cases-cons m) (ℕ-discrete (b .code) k)
+parent-list k w c (b ∷ l) f m =
+    choose-is (λ x. x ≡ w) _ (λ e. f (b .cell) (b .cost) (List·Memᴰ·head (ap (λ x. move x (b .cell) (b .cost)) (sym e))))
+    (λ n. at (λ m′. parent-list k w c l (λ w′ c′ x. f w′ c′ (List·Memᴰ·tail x)) m′) n (List·Memᴰ·cases-cons m))
   where
-    at : (List·Memᴰ (move k w c) l → parentCell l k ≡ w) → (move k w c ≡ b) ⊎ List·Memᴰ (move k w c) l → (d : Dec (b .code ≡ k)) → choose d (b .cell) (parentCell l k) ≡ w
-    at ih y (yes e) = f (b .cell) (b .cost) (List·Memᴰ·head (ap (λ x. move x (b .cell) (b .cost)) (sym e)))
-    at ih (inl e) (no n) = absurd (n (sym (ap (λ x. x .code) e)))
-    at ih (inr m′) (no n) = ih m′
+    at : (List·Memᴰ (move k w c) l → parentCell l k ≡ w) → b .code ≢ k → (move k w c ≡ b) ⊎ List·Memᴰ (move k w c) l → parentCell l k ≡ w
+    at ih n (inl e) = absurd (n (sym (ap (λ x. x .code) e)))
+    at ih n (inr m′) = ih m′
 
 -- a parent code names the cell that its move comes from
 pub parent-cell : {G : Graph} → GraphLaws G → {s k w c : ℕ} → Comes G s k w c → parentCell (G .into s) k ≡ w
@@ -53,7 +54,8 @@ upTo-self : (H : Hunt) (T : Tables) (s : ℕ) → s < H .graph .cells → 1 ≤ 
 unfolding upTo
 upTo-self H T s l =
     let z : sum (H .graph .cells) (λ x. 0) < sum (H .graph .cells) (λ x. lack (decLe (suc (rhsAt T s)) (rhsAt T x))) =
-    sum-drop (H .graph .cells) (λ x. lack (decLe (suc (rhsAt T s)) (rhsAt T x))) (λ x. 0) s l (lack-no (decLe (suc (rhsAt T s)) (rhsAt T s)) (λ h. omega arith)) (λ x m. omega arith) in
+    sum-drop (H .graph .cells) (λ x. lack (decLe (suc (rhsAt T s)) (rhsAt T x))) (λ x. 0) s l (lack-no (decLe (suc (rhsAt T s)) (rhsAt T s)) (λ h. omega arith))
+    (λ x m. omega arith) in
     omega arith
 
 upTo-less : (H : Hunt) (T : Tables) (s w : ℕ) → s < H .graph .cells → rhsAt T w < rhsAt T s → upTo H T (rhsAt T w) < upTo H T (rhsAt T s)
@@ -89,15 +91,18 @@ module _ {H : Hunt} {T : Tables} (L : Stands H) (R : Right H T) (Z : Stopped H T
       at (no n) = omega (arith, R .least s (L .laws .to-in s k w c a) n .least k w c a)
 
   -- along a chain to the target: rhs of the target is at most rhs so far and the rest
-  along : {x d : ℕ} {l : List ℕ} → Chain (H .graph) x l (H .target) d → (v : ℕ) → x < H .graph .cells → rhsAt T x ≤ v → rhsAt T (H .hunter) ≤ v → rhsAt T (H .target) ≤ v + d
+  along : {x d : ℕ} {l : List ℕ} → Chain (H .graph) x l (H .target) d → (v : ℕ) → x < H .graph .cells → rhsAt T x ≤ v → rhsAt T (H .hunter) ≤ v
+      → rhsAt T (H .target) ≤ v + d
   along stay v l h hs = omega arith
   along (go {a = x} {b} {k} {c} {d} m w) v l h hs = over (λ i is. along w (v + c) (L .laws .to-in b k x c m) i is) (decLe (suc (v + (c + d))) (rhsAt T (H .target)))
     where
       consistent : v + (c + d) < rhsAt T (H .target) → Dec (gAt T x ≡ rhsAt T x) → gAt T x ≤ v
       consistent lt (yes e) = omega arith
-      consistent lt (no n) = absurd (omega (arith, queued-key x l n, chain-estimate (L .laws) w, L .laws .near b k x c (H .target) m, L .laws .self (H .target), Z .not-over))
+      consistent lt (no n) =
+          absurd (omega (arith, queued-key x l n, chain-estimate (L .laws) w, L .laws .near b k x c (H .target) m, L .laws .self (H .target), Z .not-over))
 
-      over : (rhsAt T b ≤ v + c → rhsAt T (H .hunter) ≤ v + c → rhsAt T (H .target) ≤ v + c + d) → Dec (v + (c + d) < rhsAt T (H .target)) → rhsAt T (H .target) ≤ v + (c + d)
+      over : (rhsAt T b ≤ v + c → rhsAt T (H .hunter) ≤ v + c → rhsAt T (H .target) ≤ v + c + d) → Dec (v + (c + d) < rhsAt T (H .target))
+          → rhsAt T (H .target) ≤ v + (c + d)
       over ih (no n) = omega arith
       over ih (yes lt) =
           let i : rhsAt T b ≤ v + c = move-le b k x c v m (omega arith) (consistent lt (ℕ-discrete (gAt T x) (rhsAt T x))) in
@@ -109,7 +114,8 @@ module _ {H : Hunt} {T : Tables} (L : Stands H) (R : Right H T) (Z : Stopped H T
 
   no-chain-from : Room H T → rhsAt T (H .target) ≡ infinite → {x d : ℕ} {l : List ℕ} → Chain (H .graph) x l (H .target) d → x < H .graph .cells → rhsAt T x < infinite → ⊥
   no-chain-from room i stay l h = omega arith
-  no-chain-from room i (go {a = x} {b} {k} {c} m w) l h = no-chain-from room i w (L .laws .to-in b k x c m) (finite (ℕ-discrete b (H .hunter)) (ℕ-discrete (gAt T x) (rhsAt T x)))
+  no-chain-from room i (go {a = x} {b} {k} {c} m w) l h =
+      no-chain-from room i w (L .laws .to-in b k x c m) (finite (ℕ-discrete b (H .hunter)) (ℕ-discrete (gAt T x) (rhsAt T x)))
     where
       finite : Dec (b ≡ H .hunter) → Dec (gAt T x ≡ rhsAt T x) → rhsAt T b < infinite
       finite (yes q) e = rw q (R .hunter-finite)
@@ -141,7 +147,7 @@ module _ {H : Hunt} {T : Tables} (L : Stands H) (R : Right H T) (Z : Stopped H T
   parent-of : (s : ℕ) → s < H .graph .cells → s ≢ H .hunter → rhsAt T s < infinite → keyAt H s (rhsAt T s) ≤ key H T (H .target) → Parent s
   parent-of s l ns fin kl = at (R .least s l ns .reached)
     where
-      at : ((rhsAt T s ≡ infinite) × (parentAt T s ≡ 0)) ⊎ ((rhsAt T s < infinite) × Via (H .graph) (λ w. gAt T w) s (rhsAt T s) (parentAt T s)) → Parent s
+      at : ReachedAt (H .graph) T s → Parent s
       at (inl z) = absurd (omega arith)
       at (inr v) =
           let w = v .1 .from in
@@ -175,7 +181,7 @@ module _ {H : Hunt} {T : Tables} (L : Stands H) (R : Right H T) (Z : Stopped H T
           let p = parent-of s l ns fin kl in
           absurd (omega (arith, upTo-less H T s (p .from) l (p .less), upTo-self H T (p .from) (p .from-in)))
   way-from (suc links) s d rest h l fin kl w =
-      choose-is (λ x. Led H T s d rest x) (ℕ-discrete s (H .hunter)) (λ e. at-home s d rest l e w)
+      choose-is (λ x. Led H T s d rest x) _ (λ e. at-home s d rest l e w)
       (λ ns. on (λ x. way-from links x) (parent-of s l ns fin kl))
     where
       on : ((x d : ℕ) (rest : List ℕ) → upTo H T (rhsAt T x) ≤ suc links → x < H .graph .cells → rhsAt T x < infinite → keyAt H x (rhsAt T x) ≤ key H T (H .target)

@@ -1,14 +1,14 @@
 -- How large the numbers grow: what holds between the steps of a search.
 use mathlib.Core.Path.{_≡_, refl}
-use mathlib.Core.Logic.{_⊎_, inl, inr, _≢_}
+use mathlib.Core.Logic.{_⊎_, inl, inr}
 use Prim.Native.Nat.{ℕ, _+_, _*_, _≤_, _<_}
 use native.Mathlib.Omega.{arith}
-use native.Mathlib.Decide.{ℕ-discrete, decLt}
+use native.Mathlib.Decide.{ℕ-discrete}
 use Rattle.method.specs.Numbers.{infinite, mostCost, mostEstimate}
 use Rattle.method.specs.Graph.{Hunt}
-use Rattle.method.specs.Tables.{Tables, Sized, gAt, rhsAt, parentAt, storedKey, lesser, Via}
+use Rattle.method.specs.Tables.{Tables, Sized, gAt, rhsAt, parentAt, storedKey, lesser}
 use Rattle.method.specs.Steps.{Kind, lower}
-use Rattle.method.proofs.Notions.{Stands, Inconsistent, Right, Pick, PutBack, Lower, Raise, Did, did-put-back, did-lower, did-raise}
+use Rattle.method.proofs.Notions.{Stands, Inconsistent, ReachedAt, Right, Pick, Did, did-put-back, did-lower, did-raise}
 use Rattle.method.proofs.Facts.{Due, Floor, rhs-le, floor-keep, lacking, lacking-le, lacking-keep, lacking-drop}
 use Rattle.method.proofs.Keeping.{keep, lower-hunter, raise-hunter}
 
@@ -21,7 +21,7 @@ pub record Bound (H : Hunt) (B : ℕ) (T : Tables) : Type 0 where
 pub rhs-bound : {H : Hunt} {B : ℕ} {T : Tables} → Stands H → Right H T → Bound H B T → (s : ℕ) → s < H .graph .cells → rhsAt T s < infinite → rhsAt T s ≤ B + mostCost
 rhs-bound {H} {B} {T} L R b s l fin = at (ℕ-discrete s (H .hunter))
   where
-    via : ((rhsAt T s ≡ infinite) × (parentAt T s ≡ 0)) ⊎ ((rhsAt T s < infinite) × Via (H .graph) (λ w. gAt T w) s (rhsAt T s) (parentAt T s)) → rhsAt T s ≤ B + mostCost
+    via : ReachedAt (H .graph) T s → rhsAt T s ≤ B + mostCost
     via (inl z) = absurd (omega arith)
     via (inr v) =
         omega (
@@ -51,7 +51,8 @@ pub record During (H : Hunt) (A : ℕ) (T : Tables) : Type 0 where
   pub bound : Bound H B T
   pub room : B + mostCost * lacking lower H last T ≤ A + mostCost * H .graph .cells
 
-pub starts : {H : Hunt} {A : ℕ} {T : Tables} → Stands H → most H A + mostCost + mostEstimate + H .km < infinite → Sized (H .graph .cells) T → Right H T → Bound H A T → During H A T
+pub starts : {H : Hunt} {A : ℕ} {T : Tables} → Stands H → most H A + mostCost + mostEstimate + H .km < infinite → Sized (H .graph .cells) T → Right H T → Bound H A T
+    → During H A T
 starts {H} {A} {T} L fits z R b = record {
   stands = L;
   fits = fits;
@@ -95,7 +96,7 @@ module _ {H : Hunt} {A : ℕ} {T : Tables} (D : During H A T) where
   during-keep {T′} {u} P (did-raise b) z =
       let d = did-raise b in
       grown (D .B) P d z
-      (record { g = λ s l f. at s l f (ℕ-discrete s u); hunter = omega (arith, raise-hunter (D .stands) (D .right) P b .0, D .bound .hunter) })
+      (record { g = λ s l f. at s l f (ℕ-discrete s u); hunter = omega (arith, raise-hunter (D .stands) (D .right) P b .rhs, D .bound .hunter) })
       (omega (arith, lacking-keep (due P) d lower))
     where
       at : (s : ℕ) → s < H .graph .cells → gAt T′ s < infinite → Dec (s ≡ u) → gAt T′ s ≤ D .B
@@ -106,7 +107,7 @@ module _ {H : Hunt} {A : ℕ} {T : Tables} (D : During H A T) where
   during-keep {T′} {u} P (did-lower b) z =
       let d = did-lower b in
       grown (D .B + mostCost) P d z
-      (record { g = λ s l f. at s l f (ℕ-discrete s u); hunter = omega (arith, lower-hunter (D .stands) (D .right) P b .0, D .bound .hunter) })
+      (record { g = λ s l f. at s l f (ℕ-discrete s u); hunter = omega (arith, lower-hunter (D .stands) (D .right) P b .rhs, D .bound .hunter) })
       (omega (arith, lacking-drop (due P) d))
     where
       at : (s : ℕ) → s < H .graph .cells → gAt T′ s < infinite → Dec (s ≡ u) → gAt T′ s ≤ D .B + mostCost
@@ -134,14 +135,17 @@ module _ {H : Hunt} {A : ℕ} {T : Tables} (D : During H A T) where
       at (yes e) = inl e
       at (no n) = inr (omega (arith, rhs-bound (D .stands) (D .right) (D .bound) s l (omega (arith, n, rhs-le H T (D .right) s l)), D .room))
 
-  -- a queued cell's lesser number is finite
-  pub lesser-most : (s : ℕ) → s < H .graph .cells → Inconsistent T s → lesser T s ≤ most H A
-  lesser-most s l q = at (g-most s l) (rhs-most s l)
+  -- a queued cell's lesser number is finite, and a finite one is small
+  pub lesser-finite : (s : ℕ) → s < H .graph .cells → Inconsistent T s → lesser T s < infinite
+  lesser-finite s l q = omega (arith, q, D .right .g-le s l, rhs-le H T (D .right) s l)
+
+  pub lesser-most : (s : ℕ) → s < H .graph .cells → lesser T s < infinite → lesser T s ≤ most H A
+  lesser-most s l f = at (g-most s l) (rhs-most s l)
     where
       at : (gAt T s ≡ infinite) ⊎ (gAt T s + mostCost ≤ most H A) → (rhsAt T s ≡ infinite) ⊎ (rhsAt T s ≤ most H A) → lesser T s ≤ most H A
-      at (inl e) (inl f) = absurd (omega (arith, q))
-      at (inl e) (inr f) = omega arith
-      at (inr e) f = omega arith
+      at (inl e) (inl e′) = absurd (omega arith)
+      at (inl e) (inr h) = omega arith
+      at (inr h) e = omega arith
 
   -- no sum reaches infinite
   pub sum-fits : (s c : ℕ) → s < H .graph .cells → gAt T s < infinite → c ≤ mostCost → gAt T s + c < infinite
@@ -151,5 +155,5 @@ module _ {H : Hunt} {A : ℕ} {T : Tables} (D : During H A T) where
       at (inl e) = absurd (omega arith)
       at (inr m) = omega (arith, D .fits)
 
-  pub key-fits : (s : ℕ) → s < H .graph .cells → Inconsistent T s → lesser T s + H .graph .estimate s (H .target) + H .km < infinite
-  key-fits s l q = omega (arith, lesser-most s l q, D .stands .laws .estimate-le s (H .target) l (D .stands .target-in), D .fits)
+  pub key-fits : (s : ℕ) → s < H .graph .cells → lesser T s < infinite → lesser T s + H .graph .estimate s (H .target) + H .km < infinite
+  key-fits s l f = omega (arith, lesser-most s l f, D .stands .laws .estimate-le s (H .target) l (D .stands .target-in), D .fits)

@@ -1,31 +1,28 @@
--- A changed move leaves the tables sound.
-use mathlib.Core.Path.{_≡_, refl, sym, ap, _∙_, subst}
+-- A changed move leaves right tables, on the graph as it then is.
+use mathlib.Core.Path.{_≡_, refl, sym, _∙_}
 use mathlib.Core.Logic.{_⊎_, inl, inr, _≢_}
 use Prim.Native.Nat.{ℕ, _+_, _≤_, _<_}
 use native.Mathlib.Omega.{arith}
-use native.Mathlib.Decide.{ℕ-discrete, decLt}
-use lib.ListN.{getD}
-use Rattle.method.specs.Numbers.{infinite}
-use Rattle.method.specs.Graph.{Graph, Comes, GraphLaws, Hunt}
-use Rattle.method.specs.Tables.{Tables, Sized, gAt, rhsAt, parentAt, withRhs, choose, setRight, anew, foundAnew, Least}
+use native.Mathlib.Decide.{ℕ-discrete}
+use Rattle.method.specs.Graph.{Graph, Comes, Hunt}
+use Rattle.method.specs.Tables.{Tables, Sized, gAt, rhsAt, parentAt, Least}
 use Rattle.method.specs.Session.{Session, huntOf, moveChanged}
 use Rattle.method.specs.Sound.{Sound}
 use Rattle.method.specs.Change.{Altered}
 use Rattle.method.proofs.Choices.{choose-is}
-use Rattle.method.proofs.Notions.{Right}
+use Rattle.method.proofs.Notions.{LeastAt, Right}
 use Rattle.method.proofs.Keeping.{Held, least-stays}
-use Rattle.method.proofs.Bounds.{Bound}
 use Rattle.method.proofs.LeastSums.{anew-least}
-use Rattle.method.proofs.Entries.{withRhs-sized, setRight-sized, foundAnew-sized, Reset, reset}
-use Rattle.method.proofs.Soundness.{sound-right, sound-bound, right-sound, reset-right}
+use Rattle.method.proofs.Entries.{withRhs-sized, setRight-sized, foundAnew-sized, Reset, reset, anew-reset}
+use Rattle.method.proofs.Soundness.{sound-right, reset-right}
 
 pub moveChanged-sized : {n : ℕ} {T : Tables} → Sized n T → (H : Hunt) (v k u old new : ℕ) → Sized n (moveChanged H T v k u old new)
 unfolding moveChanged
 moveChanged-sized {n} {T} z H v k u old new =
-    choose-is (λ x. Sized n x) (ℕ-discrete v (H .hunter)) (λ _. z)
-    (λ _. choose-is (λ x. Sized n x) (decLt new old)
-    (λ _. choose-is (λ x. Sized n x) (decLt (gAt T u + new) (rhsAt T v)) (λ _. setRight-sized (withRhs-sized z v (gAt T u + new) k) H v) (λ _. z))
-    (λ _. choose-is (λ x. Sized n x) (decLt old new) (λ _. choose-is (λ x. Sized n x) (ℕ-discrete (parentAt T v) k) (λ _. foundAnew-sized z H v) (λ _. z)) (λ _. z)))
+    choose-is (λ x. Sized n x) _ (λ _. z)
+    (λ _. choose-is (λ x. Sized n x) _
+    (λ _. choose-is (λ x. Sized n x) _ (λ _. setRight-sized (withRhs-sized z v (gAt T u + new) k) H v) (λ _. z))
+    (λ _. choose-is (λ x. Sized n x) _ (λ _. choose-is (λ x. Sized n x) _ (λ _. foundAnew-sized z H v) (λ _. z)) (λ _. z)))
 
 module _ {G G′ : Graph} {v k u old new : ℕ} (A : Altered G G′ v k u old new) (g : ℕ → ℕ) where
   -- a cell that keeps its numbers
@@ -57,10 +54,10 @@ module _ {G G′ : Graph} {v k u old new : ℕ} (A : Altered G G′ v k u old ne
   level q {s} {p = p} L = least-stays (λ j w c a. L .least j w c (A .level-after q s j w c a)) (λ w c a _. (A .level-before q s p w c a, refl)) L
 
 -- What a change leaves: right tables, every g, and the hunter's rhs.
-record Changed (H : Hunt) (T E : Tables) : Type 0 where
-  right : Right H E
-  g : E .g ≡ T .g
-  hunter : rhsAt E (H .hunter) ≡ rhsAt T (H .hunter)
+pub record Changed (H : Hunt) (T E : Tables) : Type 0 where
+  pub right : Right H E
+  pub g : E .g ≡ T .g
+  pub hunter : rhsAt E (H .hunter) ≡ rhsAt T (H .hunter)
 
 module _ {G G′ : Graph} {σ : Session} {T : Tables} {v k u old new : ℕ} (A : Altered G G′ v k u old new) (S : Sound G σ T) (lv : v < G .cells) where
   R : Right (huntOf G σ) T
@@ -74,10 +71,10 @@ module _ {G G′ : Graph} {σ : Session} {T : Tables} {v k u old new : ℕ} (A :
   held s l = (R .queue s l, λ n. omega (arith, R .keys s l n, A .estimate s (σ .lastTarget)))
 
   -- a cell other than v
-  apart : (s : ℕ) → s < G .cells → s ≢ σ .lastHunter → s ≢ v → Least G′ (λ w. gAt T w) s (rhsAt T s) (parentAt T s)
+  apart : (s : ℕ) → s < G .cells → s ≢ σ .lastHunter → s ≢ v → LeastAt G′ T s
   apart s l ns ne = keeps A (λ w. gAt T w) (λ e. absurd (ne e)) (λ e. absurd (ne e)) (R .least s l ns)
 
-  changed-none : ((s : ℕ) → s < G .cells → s ≢ σ .lastHunter → Least G′ (λ w. gAt T w) s (rhsAt T s) (parentAt T s)) → Changed (huntOf G′ σ) T T
+  changed-none : ((s : ℕ) → s < G .cells → s ≢ σ .lastHunter → LeastAt G′ T s) → Changed (huntOf G′ σ) T T
   changed-none least = record {
     right = record {
       g-le = λ s l. R .g-le s (cell-in s l);
@@ -95,7 +92,7 @@ module _ {G G′ : Graph} {σ : Session} {T : Tables} {v k u old new : ℕ} (A :
   changed-kept : (v ≢ σ .lastHunter → (rhsAt T v ≤ gAt T u + new) × (parentAt T v ≡ k → rhsAt T v ≡ gAt T u + old → ⊥)) → Changed (huntOf G′ σ) T T
   changed-kept f = changed-none (λ s l ns. at s l ns (ℕ-discrete s v))
     where
-      at : (s : ℕ) → s < G .cells → s ≢ σ .lastHunter → Dec (s ≡ v) → Least G′ (λ w. gAt T w) s (rhsAt T s) (parentAt T s)
+      at : (s : ℕ) → s < G .cells → s ≢ σ .lastHunter → Dec (s ≡ v) → LeastAt G′ T s
       at s l ns (yes e) = rw e (let nv = rw e at ns in keeps A (λ w. gAt T w) (λ _. f nv .0) (λ _. f nv .1) (R .least v lv nv))
       at s l ns (no ne) = apart s l ns ne
 
@@ -104,41 +101,28 @@ module _ {G G′ : Graph} {σ : Session} {T : Tables} {v k u old new : ℕ} (A :
   changed-reset {E} nv Z L =
       let e = Z .other (σ .lastHunter) (λ q. nv (sym q)) in
       record {
-        right = reset-right Z (λ s l. R .g-le s (cell-in s l)) (omega (arith, e .rhs, R .hunter-finite)) (e .parent ∙ R .hunter-parent) (λ s l. apart s (cell-in s l)) (λ _. L) (λ s l _. held s (cell-in s l));
+        right =
+            reset-right Z (λ s l. R .g-le s (cell-in s l)) (omega (arith, e .rhs, R .hunter-finite)) (e .parent ∙ R .hunter-parent)
+            (λ s l. apart s (cell-in s l)) (λ _. L) (λ s l _. held s (cell-in s l));
         g = Z .g;
         hunter = e .rhs;
       }
 
-  changed-is : Changed (huntOf G′ σ) T (moveChanged (huntOf G′ σ) T v k u old new)
-  unfolding moveChanged foundAnew
+  pub changed-is : Changed (huntOf G′ σ) T (moveChanged (huntOf G′ σ) T v k u old new)
+  unfolding moveChanged
   changed-is =
-      choose-is Q (ℕ-discrete v (σ .lastHunter)) (λ e. changed-kept (λ nv. absurd (nv e)))
-      (λ nv. choose-is Q (decLt new old)
-      (λ f. choose-is Q (decLt (gAt T u + new) (rhsAt T v))
-      (λ lt. changed-reset nv (reset (huntOf G′ σ) T v (gAt T u + new) k (S .sized) lv (R .g-le v lv) (omega (arith, R .least v lv nv .le-inf))) (sinks A (λ w. gAt T w) f lt (R .least v lv nv)))
+      choose-is Q _ (λ e. changed-kept (λ nv. absurd (nv e)))
+      (λ nv. choose-is Q _
+      (λ f. choose-is Q _
+      (λ lt.
+      changed-reset nv (reset (huntOf G′ σ) T v (gAt T u + new) k (S .sized) lv (R .g-le v lv) (omega (arith, R .least v lv nv .le-inf)))
+      (sinks A (λ w. gAt T w) f lt (R .least v lv nv)))
       (λ nlt. changed-kept (λ _. (omega arith, λ _ e. omega arith))))
-      (λ nf. choose-is Q (decLt old new)
-      (λ r. choose-is Q (ℕ-discrete (parentAt T v) k)
-      (λ e. changed-reset nv (reset (huntOf G′ σ) T v (anew G′ (T .g) v .sum) (anew G′ (T .g) v .code) (S .sized) lv (R .g-le v lv) (anew-least G′ (T .g) v .le-inf)) (anew-least G′ (T .g) v))
+      (λ nf. choose-is Q _
+      (λ r. choose-is Q _
+      (λ e. changed-reset nv (anew-reset (huntOf G′ σ) T v (S .sized) lv (R .g-le v lv)) (anew-least G′ (T .g) v))
       (λ ne. changed-kept (λ _. (omega (arith, R .least v lv nv .least k u old (A .rises r)), λ q _. ne q))))
       (λ nr. changed-none (λ s l ns. level A (λ w. gAt T w) (omega arith) (R .least s l ns)))))
     where
       Q : Tables → Type 0
       Q E = Changed (huntOf G′ σ) T E
-
-  pub changed-sound : Sound G′ σ (moveChanged (huntOf G′ σ) T v k u old new)
-  changed-sound =
-      right-sound
-      (record {
-        hunter-in = omega (arith, S .hunter-in, A .cells);
-        target-in = omega (arith, S .target-in, A .cells);
-        last-hunter-in = omega (arith, S .last-hunter-in, A .cells);
-        last-target-in = omega (arith, S .last-target-in, A .cells);
-        searches-le = S .searches-le;
-        km-le = S .km-le;
-      })
-      (subst (λ n. Sized n (moveChanged (huntOf G′ σ) T v k u old new)) (sym (A .cells)) (moveChanged-sized (S .sized) (huntOf G′ σ) v k u old new)) (changed-is .right)
-      (record {
-        g = λ s l f. omega (arith, ap (λ x. getD x s 0) (changed-is .g), sound-bound S .g s (cell-in s l) (omega (arith, ap (λ x. getD x s 0) (changed-is .g))));
-        hunter = omega (arith, changed-is .hunter, S .hunter-le);
-      })

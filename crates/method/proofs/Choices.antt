@@ -1,5 +1,7 @@
--- What `choose` gives.
+-- What `choose` gives, and what two different constructors give.
 use mathlib.Core.Path.{_≡_, refl}
+use Prim.Native.Nat.{ℕ}
+use native.Mathlib.Omega.{arith}
 use Rattle.method.specs.Tables.{choose}
 
 module _ {A P : Type 0} where
@@ -18,3 +20,7 @@ module _ {A P : Type 0} where
   unfolding choose
   choose-is Q (yes p) f g = f p
   choose-is Q (no n) f g = g n
+
+-- Anything follows where two constructors are one: write `differ cc`.
+pub differ : {A : Type 0} → _≡_ {A = ℕ} 0 1 → A
+differ z = absurd (omega arith)

@@ -1,6 +1,6 @@
 -- Counting the cells that lack a fact.
 use mathlib.Core.Path.{_≡_}
-use Prim.Native.Nat.{ℕ, zero, suc, _+_, _*_, _≤_, _<_}
+use Prim.Native.Nat.{ℕ, zero, suc, _+_, _≤_, _<_}
 use native.Mathlib.Omega.{arith}
 use native.Mathlib.Decide.{ℕ-discrete}
 
@@ -19,11 +19,6 @@ module _ {P : Type 0} where
   unfolding lack
   lack-no (yes p) m = absurd (m p)
   lack-no (no n) m = omega arith
-
-  pub lack-none : (d : Dec P) → lack d ≤ 0 → P
-  unfolding lack
-  lack-none (yes p) l = p
-  lack-none (no n) l = absurd (omega arith)
 
   pub lack-keep : {Q : Type 0} (d : Dec P) (e : Dec Q) → (P → Q) → lack e ≤ lack d
   unfolding lack
@@ -62,12 +57,3 @@ sum-drop (suc n) f f′ u l d h = at (λ l′. sum-drop n f f′ u l′ d (λ s 
         let d′ : f′ n < f n = rw e at d in
         omega (arith, sum-keep n f f′ (λ s m. h s (omega arith)))
     at ih (no e) = omega (arith, ih (omega arith), h n (omega arith))
-
-pub sum-none : (n : ℕ) (f : ℕ → ℕ) → sum n f ≤ 0 → (s : ℕ) → s < n → f s ≤ 0
-unfolding sum
-sum-none zero f h s l = absurd (omega arith)
-sum-none (suc n) f h s l = at (λ l′. sum-none n f (omega arith) s l′) (ℕ-discrete s n)
-  where
-    at : (s < n → f s ≤ 0) → Dec (s ≡ n) → f s ≤ 0
-    at ih (yes e) = rw e (omega arith)
-    at ih (no m) = ih (omega arith)

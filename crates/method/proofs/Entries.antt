@@ -5,23 +5,38 @@ use mathlib.Core.Logic.{_≢_}
 use Prim.Native.Nat.{ℕ, _+_, _≤_, _<_}
 use native.Mathlib.Omega.{arith}
 use native.Mathlib.Decide.{ℕ-discrete}
-use lib.ListN.{length, getD, set, length-set}
+use lib.ListN.{getD, set, length-set}
 use lib.Seq.{getD-set-same, getD-set-other}
 use Rattle.method.specs.Numbers.{infinite}
-use Rattle.method.specs.Graph.{Graph, Hunt}
-use Rattle.method.specs.Tables.{Tables, Sized, gAt, rhsAt, parentAt, queuedAt, withG, withRhs, withEntry, storedKey, lesser, firstKey, calculatedKey, enter, leave, setRight, anew, foundAnew}
+use Rattle.method.specs.Graph.{Hunt}
+use Rattle.method.specs.Tables.{Tables, Sized, gAt, rhsAt, parentAt, withG, withRhs, withEntry, lesser, firstKey, calculatedKey, enter, leave, setRight, anew, foundAnew}
 use Rattle.method.proofs.Choices.{choose-yes, choose-no, choose-is}
 use Rattle.method.proofs.Notions.{key, Inconsistent, EntryRight, SameEntry, Same}
+use Rattle.method.proofs.LeastSums.{anew-least}
 
 module _ {n : ℕ} {T : Tables} (z : Sized n T) where
   pub withG-sized : (s v : ℕ) → Sized n (withG T s v)
   withG-sized s v = record { g = length-set (T .g) s v ∙ z .g; rhs = z .rhs; parent = z .parent; k1 = z .k1; k2 = z .k2; queued = z .queued }
 
   pub withRhs-sized : (s r p : ℕ) → Sized n (withRhs T s r p)
-  withRhs-sized s r p = record { g = z .g; rhs = length-set (T .rhs) s r ∙ z .rhs; parent = length-set (T .parent) s p ∙ z .parent; k1 = z .k1; k2 = z .k2; queued = z .queued }
+  withRhs-sized s r p = record {
+    g = z .g;
+    rhs = length-set (T .rhs) s r ∙ z .rhs;
+    parent = length-set (T .parent) s p ∙ z .parent;
+    k1 = z .k1;
+    k2 = z .k2;
+    queued = z .queued;
+  }
 
   pub withEntry-sized : (s a b : ℕ) (q : Bool) → Sized n (withEntry T s a b q)
-  withEntry-sized s a b q = record { g = z .g; rhs = z .rhs; parent = z .parent; k1 = length-set (T .k1) s a ∙ z .k1; k2 = length-set (T .k2) s b ∙ z .k2; queued = length-set (T .queued) s q ∙ z .queued }
+  withEntry-sized s a b q = record {
+    g = z .g;
+    rhs = z .rhs;
+    parent = z .parent;
+    k1 = length-set (T .k1) s a ∙ z .k1;
+    k2 = length-set (T .k2) s b ∙ z .k2;
+    queued = length-set (T .queued) s q ∙ z .queued;
+  }
 
   pub enter-sized : (H : Hunt) (s : ℕ) → Sized n (enter H T s)
   unfolding enter
@@ -29,7 +44,7 @@ module _ {n : ℕ} {T : Tables} (z : Sized n T) where
 
   pub setRight-sized : (H : Hunt) (s : ℕ) → Sized n (setRight H T s)
   unfolding setRight
-  setRight-sized H s = choose-is (λ x. Sized n x) (ℕ-discrete (gAt T s) (rhsAt T s)) (λ _. withEntry-sized s 0 0 false) (λ _. enter-sized H s)
+  setRight-sized H s = choose-is (λ x. Sized n x) _ (λ _. withEntry-sized s 0 0 false) (λ _. enter-sized H s)
 
 pub foundAnew-sized : {n : ℕ} {T : Tables} → Sized n T → (H : Hunt) (s : ℕ) → Sized n (foundAnew H T s)
 unfolding foundAnew
@@ -101,7 +116,7 @@ module _ (H : Hunt) (T : Tables) (s : ℕ) {n : ℕ} (z : Sized n T) (l : s < n)
 
   pub righted : gAt T s ≤ infinite → rhsAt T s ≤ infinite → Righted H T (setRight H T s) s
   unfolding setRight
-  righted lg lr = choose-is (λ x. Righted H T x s) (ℕ-discrete (gAt T s) (rhsAt T s)) leave-righted (enter-righted lg lr)
+  righted lg lr = choose-is (λ x. Righted H T x s) _ leave-righted (enter-righted lg lr)
 
 -- rhs and parent of s written, and its entry set right: only s has changed.
 pub record Reset (H : Hunt) (T T′ : Tables) (s r p : ℕ) : Type 0 where
@@ -129,3 +144,9 @@ reset H T s r p z l lg lr = record {
 
     R : Righted H (withRhs T s r p) (setRight H (withRhs T s r p) s) s
     R = righted H (withRhs T s r p) s (withRhs-sized z s r p) l lg (omega (arith, at-s))
+
+-- found anew
+pub anew-reset : (H : Hunt) (T : Tables) (s : ℕ) {n : ℕ} → Sized n T → s < n → gAt T s ≤ infinite
+    → Reset H T (foundAnew H T s) s (anew (H .graph) (T .g) s .sum) (anew (H .graph) (T .g) s .code)
+unfolding foundAnew
+anew-reset H T s z l lg = reset H T s (anew (H .graph) (T .g) s .sum) (anew (H .graph) (T .g) s .code) z l lg (anew-least (H .graph) (T .g) s .le-inf)

@@ -6,17 +6,17 @@ use native.Mathlib.Omega.{arith}
 use native.Mathlib.Decide.{ℕ-discrete, decLe}
 use Rattle.method.specs.Numbers.{infinite}
 use Rattle.method.specs.Graph.{Graph, Comes, GraphLaws, Hunt}
-use Rattle.method.specs.Tables.{Tables, gAt, rhsAt, parentAt, storedKey, lesser, Via, Least}
+use Rattle.method.specs.Tables.{Tables, gAt, rhsAt, parentAt, storedKey, Least}
 use Rattle.method.specs.Steps.{Kind, put-back, lower, raise}
-use Rattle.method.proofs.Counting.{lack, lack-le, lack-keep, lack-gain, lack-none, sum, sum-bound, sum-keep, sum-drop, sum-none}
-use Rattle.method.proofs.Notions.{Stands, keyAt, key, Inconsistent, Right, Pick, Same, PutBack, Lowered, Lower, Kept, Renewed, Raise, Did, did-put-back, did-lower, did-raise}
+use Rattle.method.proofs.Counting.{lack, lack-le, lack-keep, lack-gain, sum, sum-bound, sum-keep, sum-drop}
+use Rattle.method.proofs.Notions.{Stands, keyAt, key, Inconsistent, Reached, ReachedAt, Right, Pick, Same, Lowered, Lower, Kept, Renewed, Raise, Did, did-put-back, did-lower, did-raise}
 
 -- the parent's move gives the sum
-pub parent-sum : (H : Hunt) → Stands H → (T : Tables) → Right H T → (s u c : ℕ) → s < H .graph .cells → s ≢ H .hunter → Comes (H .graph) s (parentAt T s) u c
+parent-sum : (H : Hunt) → Stands H → (T : Tables) → Right H T → (s u c : ℕ) → s < H .graph .cells → s ≢ H .hunter → Comes (H .graph) s (parentAt T s) u c
     → rhsAt T s ≡ gAt T u + c
 parent-sum H L T R s u c l ns a = at (R .least s l ns .reached)
   where
-    at : ((rhsAt T s ≡ infinite) × (parentAt T s ≡ 0)) ⊎ ((rhsAt T s < infinite) × Via (H .graph) (λ w. gAt T w) s (rhsAt T s) (parentAt T s)) → rhsAt T s ≡ gAt T u + c
+    at : ReachedAt (H .graph) T s → rhsAt T s ≡ gAt T u + c
     at (inl z) = omega (arith, L .laws .code-pos s (parentAt T s) u c a)
     at (inr v) =
         let e : v .1 .from ≡ u = L .laws .one-from s (parentAt T s) (v .1 .from) (v .1 .cost) u c (v .1 .comes) a in
@@ -27,7 +27,7 @@ parent-sum H L T R s u c l ns a = at (R .least s l ns .reached)
 pub least-mono : {G : Graph} → GraphLaws G → {g g′ : ℕ → ℕ} {s r p r′ p′ : ℕ} → ((w : ℕ) → w < G .cells → g w ≤ g′ w) → Least G g s r p → Least G g′ s r′ p′ → r ≤ r′
 least-mono {G} L {g} {g′} {s} {r} {p} {r′} {p′} up A B = at (B .reached)
   where
-    at : ((r′ ≡ infinite) × (p′ ≡ 0)) ⊎ ((r′ < infinite) × Via G g′ s r′ p′) → r ≤ r′
+    at : Reached G g′ s r′ p′ → r ≤ r′
     at (inl z) = omega (arith, A .le-inf)
     at (inr v) =
         omega (arith, v .1 .sum, A .least p′ (v .1 .from) (v .1 .cost) (v .1 .comes), up (v .1 .from) (L .from-in s p′ (v .1 .from) (v .1 .cost) (v .1 .comes)))
@@ -73,7 +73,8 @@ raise-up {T = T} {T′} {u} R b w l = at (ℕ-discrete w u)
     at (no n) = omega (arith, b .g w l n)
 
 -- of a cell whose numbers stay
-fresh-same : (H : Hunt) (κ : ℕ) (T T′ : Tables) (s : ℕ) → gAt T′ s ≡ gAt T s → rhsAt T′ s ≡ rhsAt T s → storedKey T′ s ≡ storedKey T s → Fact put-back H κ T s → Fact put-back H κ T′ s
+fresh-same : (H : Hunt) (κ : ℕ) (T T′ : Tables) (s : ℕ) → gAt T′ s ≡ gAt T s → rhsAt T′ s ≡ rhsAt T s → storedKey T′ s ≡ storedKey T s
+    → Fact put-back H κ T s → Fact put-back H κ T′ s
 fresh-same H κ T T′ s eg er es (inl e) = inl (omega arith)
 fresh-same H κ T T′ s eg er es (inr e) = inr (omega arith)
 
@@ -253,7 +254,7 @@ dec-⊎ {A} {B} (no n) (no m) = no at
 dec-settled : (H : Hunt) (κ : ℕ) (T : Tables) (s : ℕ) → Dec (Settled H κ T s)
 dec-settled H κ T s = dec-× (ℕ-discrete (gAt T s) (rhsAt T s)) (decLe (keyAt H s (gAt T s)) κ)
 
-pub dec-fact : (k : Kind) (H : Hunt) (κ : ℕ) (T : Tables) (s : ℕ) → Dec (Fact k H κ T s)
+dec-fact : (k : Kind) (H : Hunt) (κ : ℕ) (T : Tables) (s : ℕ) → Dec (Fact k H κ T s)
 dec-fact lower H κ T s = dec-settled H κ T s
 dec-fact raise H κ T s = dec-⊎ (dec-settled H κ T s) (ℕ-discrete (gAt T s) infinite)
 dec-fact put-back H κ T s = dec-⊎ (ℕ-discrete (gAt T s) (rhsAt T s)) (ℕ-discrete (storedKey T s) (key H T s))

@@ -5,10 +5,10 @@ use Prim.Native.Nat.{ℕ, _+_, _≤_, _<_}
 use native.Mathlib.Omega.{arith}
 use native.Mathlib.Decide.{ℕ-discrete}
 use Rattle.method.specs.Numbers.{infinite}
-use Rattle.method.specs.Graph.{Graph, Comes, GraphLaws, Hunt}
-use Rattle.method.specs.Tables.{Tables, gAt, rhsAt, parentAt, storedKey, Via, Least}
+use Rattle.method.specs.Graph.{Graph, Comes, Hunt}
+use Rattle.method.specs.Tables.{Tables, gAt, rhsAt, parentAt, storedKey, Least}
 use Rattle.method.specs.Steps.{Kind}
-use Rattle.method.proofs.Notions.{Stands, key, Inconsistent, QueueRight, EntryRight, Right, Pick, SameEntry, Same, PutBack, Lowered, Lower, Kept, Renewed, Raise, Did, did-put-back, did-lower, did-raise}
+use Rattle.method.proofs.Notions.{Stands, key, Inconsistent, QueueRight, EntryRight, Reached, LeastAt, Right, Pick, SameEntry, Same, PutBack, Lowered, Lower, Kept, Renewed, Raise, HunterKept, Did, did-put-back, did-lower, did-raise}
 use Rattle.method.proofs.Facts.{raise-up}
 
 -- ---- a cell whose numbers stay
@@ -41,7 +41,7 @@ pub least-stays : {G G′ : Graph} {g g′ : ℕ → ℕ} {s r p : ℕ} → ((k 
     → ((w c : ℕ) → Comes G s p w c → r ≡ g w + c → Comes G′ s p w c × (g′ w ≡ g w)) → Least G g s r p → Least G′ g′ s r p
 least-stays {G} {G′} {g} {g′} {s} {r} {p} all same L = record { le-inf = L .le-inf; least = all; reached = at (L .reached) }
   where
-    at : ((r ≡ infinite) × (p ≡ 0)) ⊎ ((r < infinite) × Via G g s r p) → ((r ≡ infinite) × (p ≡ 0)) ⊎ ((r < infinite) × Via G′ g′ s r p)
+    at : Reached G g s r p → Reached G′ g′ s r p
     at (inl z) = inl z
     at (inr v) =
         let e = same (v .1 .from) (v .1 .cost) (v .1 .comes) (v .1 .sum) in
@@ -58,7 +58,8 @@ module _ {H : Hunt} {T : Tables} {u : ℕ} (L : Stands H) (R : Right H T) (P : P
     hunter-parent = b .parent (H .hunter) (L .hunter-in) ∙ R .hunter-parent;
     least = λ s l n.
         rw (b .rhs s l, b .parent s l)
-        (least-stays (λ k w c a. omega (arith, R .least s l n .least k w c a, b .g w (L .laws .from-in s k w c a))) (λ w c a _. (a, b .g w (L .laws .from-in s (parentAt T s) w c a))) (R .least s l n));
+        (least-stays (λ k w c a. omega (arith, R .least s l n .least k w c a, b .g w (L .laws .from-in s k w c a)))
+        (λ w c a _. (a, b .g w (L .laws .from-in s (parentAt T s) w c a))) (R .least s l n));
     queue = λ s l. at s l (ℕ-discrete s u) .0;
     keys = λ s l. at s l (ℕ-discrete s u) .1;
   }
@@ -84,37 +85,36 @@ module _ {H : Hunt} {T : Tables} {u : ℕ} (L : Stands H) (R : Right H T) (P : P
       via w c a f (no n) = b .g w (L .laws .from-in s (parentAt T s) w c a) n
 
   -- a lowered cell
-  lower-new : {T′ : Tables} → Lower H T T′ u → (s : ℕ) → s < H .graph .cells → s ≢ u → Lowered H T T′ u s → Least (H .graph) (λ w. gAt T′ w) s (rhsAt T′ s) (parentAt T′ s)
+  lower-new : {T′ : Tables} → Lower H T T′ u → (s : ℕ) → s < H .graph .cells → s ≢ u → Lowered H T T′ u s → LeastAt (H .graph) T′ s
   lower-new {T′} b s l n m = record {
     le-inf = omega (arith, m .less, A .le-inf);
     least = λ k w c a. sums k w c a (ℕ-discrete w u);
     reached = inr (omega (arith, m .less, A .le-inf), record { from = u; cost = m .cost; comes = m .comes; sum = rw (b .g-u) (m .sum) });
   }
     where
-      A : Least (H .graph) (λ w. gAt T w) s (rhsAt T s) (parentAt T s)
+      A : LeastAt (H .graph) T s
       A = R .least s l (m .not-hunter)
 
       sums : (k w c : ℕ) → Comes (H .graph) s k w c → Dec (w ≡ u) → rhsAt T′ s ≤ gAt T′ w + c
       sums k w c a (yes e) = rw (e, b .g-u) (b .all s k c (m .not-hunter) n (rw e at a))
       sums k w c a (no n′) = omega (arith, b .g w (L .laws .from-in s k w c a) n′, A .least k w c a, m .less)
 
-  -- the hunter keeps rhs and parent
-  pub lower-hunter : {T′ : Tables} → Lower H T T′ u → (rhsAt T′ (H .hunter) ≡ rhsAt T (H .hunter)) × (parentAt T′ (H .hunter) ≡ parentAt T (H .hunter))
+  pub lower-hunter : {T′ : Tables} → Lower H T T′ u → HunterKept H T T′
   lower-hunter {T′} b = at (ℕ-discrete (H .hunter) u)
     where
-      other : Same T T′ (H .hunter) ⊎ Lowered H T T′ u (H .hunter) → (rhsAt T′ (H .hunter) ≡ rhsAt T (H .hunter)) × (parentAt T′ (H .hunter) ≡ parentAt T (H .hunter))
-      other (inl m) = (m .rhs, m .parent)
+      other : Same T T′ (H .hunter) ⊎ Lowered H T T′ u (H .hunter) → HunterKept H T T′
+      other (inl m) = record { rhs = m .rhs; parent = m .parent }
       other (inr m) = absurd (m .not-hunter refl)
 
-      at : Dec (H .hunter ≡ u) → (rhsAt T′ (H .hunter) ≡ rhsAt T (H .hunter)) × (parentAt T′ (H .hunter) ≡ parentAt T (H .hunter))
-      at (yes e) = rw e (b .rhs-u, b .parent-u)
+      at : Dec (H .hunter ≡ u) → HunterKept H T T′
+      at (yes e) = record { rhs = rw e (b .rhs-u); parent = rw e (b .parent-u) }
       at (no n) = other (b .cells (H .hunter) (L .hunter-in) n)
 
   keep-lower : {T′ : Tables} → Lower H T T′ u → Right H T′
   keep-lower {T′} b = record {
     g-le = λ s l. g-at s l (ℕ-discrete s u);
-    hunter-finite = rw (lower-hunter b .0) (R .hunter-finite);
-    hunter-parent = lower-hunter b .1 ∙ R .hunter-parent;
+    hunter-finite = rw (lower-hunter b .rhs) (R .hunter-finite);
+    hunter-parent = lower-hunter b .parent ∙ R .hunter-parent;
     least = λ s l ns. cell s l ns (ℕ-discrete s u);
     queue = λ s l. at s l (ℕ-discrete s u) .0;
     keys = λ s l. at s l (ℕ-discrete s u) .1;
@@ -124,11 +124,11 @@ module _ {H : Hunt} {T : Tables} {u : ℕ} (L : Stands H) (R : Right H T) (P : P
       g-at s l (yes e) = rw e (omega (arith, b .g-u, b .over, R .g-le u (P .u-in)))
       g-at s l (no n) = omega (arith, b .g s l n, R .g-le s l)
 
-      other : (s : ℕ) → s < H .graph .cells → s ≢ H .hunter → s ≢ u → Same T T′ s ⊎ Lowered H T T′ u s → Least (H .graph) (λ w. gAt T′ w) s (rhsAt T′ s) (parentAt T′ s)
+      other : (s : ℕ) → s < H .graph .cells → s ≢ H .hunter → s ≢ u → Same T T′ s ⊎ Lowered H T T′ u s → LeastAt (H .graph) T′ s
       other s l ns n (inl m) = rw (m .rhs, m .parent) (lower-cell b s l ns (λ k c a. rw (m .rhs) at (b .all s k c ns n a)))
       other s l ns n (inr m) = lower-new b s l n m
 
-      cell : (s : ℕ) → s < H .graph .cells → s ≢ H .hunter → Dec (s ≡ u) → Least (H .graph) (λ w. gAt T′ w) s (rhsAt T′ s) (parentAt T′ s)
+      cell : (s : ℕ) → s < H .graph .cells → s ≢ H .hunter → Dec (s ≡ u) → LeastAt (H .graph) T′ s
       cell s l ns (yes e) = rw (e, b .rhs-u, b .parent-u) (lower-cell b u (P .u-in) (rw e at ns) (λ k c a. omega arith))
       cell s l ns (no n) = other s l ns n (b .cells s l n)
 
@@ -140,19 +140,18 @@ module _ {H : Hunt} {T : Tables} {u : ℕ} (L : Stands H) (R : Right H T) (P : P
       at s l (yes e) = rw e (held-right H T′ u (b .entry-u))
       at s l (no n) = entry s l n (b .cells s l n)
 
-  -- the hunter keeps rhs and parent
-  pub raise-hunter : {T′ : Tables} → Raise H T T′ u → (rhsAt T′ (H .hunter) ≡ rhsAt T (H .hunter)) × (parentAt T′ (H .hunter) ≡ parentAt T (H .hunter))
+  pub raise-hunter : {T′ : Tables} → Raise H T T′ u → HunterKept H T T′
   raise-hunter {T′} b = at (b .cells (H .hunter) (L .hunter-in))
     where
-      at : Kept H T T′ u (H .hunter) ⊎ Renewed H T T′ u (H .hunter) → (rhsAt T′ (H .hunter) ≡ rhsAt T (H .hunter)) × (parentAt T′ (H .hunter) ≡ parentAt T (H .hunter))
-      at (inl m) = (m .rhs, m .parent)
+      at : Kept H T T′ u (H .hunter) ⊎ Renewed H T T′ u (H .hunter) → HunterKept H T T′
+      at (inl m) = record { rhs = m .rhs; parent = m .parent }
       at (inr m) = absurd (m .not-hunter refl)
 
   keep-raise : {T′ : Tables} → Raise H T T′ u → Right H T′
   keep-raise {T′} b = record {
     g-le = λ s l. g-at s l (ℕ-discrete s u);
-    hunter-finite = rw (raise-hunter b .0) (R .hunter-finite);
-    hunter-parent = raise-hunter b .1 ∙ R .hunter-parent;
+    hunter-finite = rw (raise-hunter b .rhs) (R .hunter-finite);
+    hunter-parent = raise-hunter b .parent ∙ R .hunter-parent;
     least = λ s l ns. cell s l ns (b .cells s l);
     queue = λ s l. at s l (ℕ-discrete s u) .0;
     keys = λ s l. at s l (ℕ-discrete s u) .1;
@@ -162,8 +161,10 @@ module _ {H : Hunt} {T : Tables} {u : ℕ} (L : Stands H) (R : Right H T) (P : P
       g-at s l (yes e) = rw e (omega (arith, b .g-u))
       g-at s l (no n) = omega (arith, b .g s l n, R .g-le s l)
 
-      cell : (s : ℕ) → s < H .graph .cells → s ≢ H .hunter → Kept H T T′ u s ⊎ Renewed H T T′ u s → Least (H .graph) (λ w. gAt T′ w) s (rhsAt T′ s) (parentAt T′ s)
-      cell s l ns (inl m) = rw (m .rhs, m .parent) (least-stays (λ k w c a. omega (arith, R .least s l ns .least k w c a, raise-up R b w (L .laws .from-in s k w c a))) (λ w c a _. (a, via w c a (ℕ-discrete w u))) (R .least s l ns))
+      cell : (s : ℕ) → s < H .graph .cells → s ≢ H .hunter → Kept H T T′ u s ⊎ Renewed H T T′ u s → LeastAt (H .graph) T′ s
+      cell s l ns (inl m) =
+          rw (m .rhs, m .parent)
+          (least-stays (λ k w c a. omega (arith, R .least s l ns .least k w c a, raise-up R b w (L .laws .from-in s k w c a))) (λ w c a _. (a, via w c a (ℕ-discrete w u))) (R .least s l ns))
         where
           via : (w c : ℕ) → Comes (H .graph) s (parentAt T s) w c → Dec (w ≡ u) → gAt T′ w ≡ gAt T w
           via w c a (yes e) = absurd (m .not-parent ns c (rw e at a))

@@ -4,10 +4,9 @@ use mathlib.Core.Logic.{_⊎_, inl, inr}
 use mathlib.Core.List.{List, [], _∷_, List·Memᴰ, List·Memᴰ·head, List·Memᴰ·tail, List·Memᴰ·not-nil, List·Memᴰ·cases-cons}
 use Prim.Native.Nat.{ℕ, _+_, _≤_, _<_}
 use native.Mathlib.Omega.{arith}
-use native.Mathlib.Decide.{decLt}
 use lib.ListN.{getD}
 use Rattle.method.specs.Numbers.{infinite}
-use Rattle.method.specs.Graph.{Move, move, Graph, Comes, GraphLaws}
+use Rattle.method.specs.Graph.{Move, move, Graph, GraphLaws}
 use Rattle.method.specs.Tables.{Found, found, better, leastOver, anew, Via, Least}
 use Rattle.method.proofs.Choices.{choose-is}
 use Rattle.method.proofs.Facts.{least-mono}
@@ -22,10 +21,11 @@ over : (g : List ℕ) (f : Found) (l : List Move) → Over g f l (leastOver g f 
 unfolding leastOver better
 over g f [] = record { le = omega arith; least = λ k w c m. absurd (List·Memᴰ·not-nil m); from = inl refl }
 over g f (m ∷ l) =
-    choose-is (λ b. Over g b l (leastOver g b l) → Over g f (m ∷ l) (leastOver g b l)) (decLt (getD g (m .cell) 0 + m .cost) (f .sum))
+    choose-is (λ b. Over g b l (leastOver g b l) → Over g f (m ∷ l) (leastOver g b l)) _
     (λ lt o. taken (leastOver g (found (getD g (m .cell) 0 + m .cost) (m .code)) l) lt o) (λ nlt o. left (leastOver g f l) nlt o) (over g (better g f m) l)
   where
-    first : (r : Found) → r .sum ≤ getD g (m .cell) 0 + m .cost → ((k w c : ℕ) → List·Memᴰ (move k w c) l → r .sum ≤ getD g w 0 + c) → (k w c : ℕ) → (move k w c ≡ m) ⊎ List·Memᴰ (move k w c) l → r .sum ≤ getD g w 0 + c
+    first : (r : Found) → r .sum ≤ getD g (m .cell) 0 + m .cost → ((k w c : ℕ) → List·Memᴰ (move k w c) l → r .sum ≤ getD g w 0 + c)
+        → (k w c : ℕ) → (move k w c ≡ m) ⊎ List·Memᴰ (move k w c) l → r .sum ≤ getD g w 0 + c
     first r le more k w c (inl e) =
         let ew : w ≡ m .cell = ap (λ x. x .cell) e in
         let ec : c ≡ m .cost = ap (λ x. x .cost) e in

@@ -1,3 +1,4 @@
+-- The proofs, from the ground up. Theorems has what they come to; Drill computes.
 pub mod Counting
 pub mod Choices
 pub mod Notions
@@ -14,7 +15,6 @@ pub mod Soundness
 pub mod Changing
 pub mod Readying
 pub mod Searching
-pub mod Appending
-pub mod Determined
 pub mod Theorems
+pub mod Appending
 pub mod Drill

@@ -5,7 +5,7 @@ use mathlib.Core.Logic.{_⊎_, _≢_}
 use Prim.Native.Nat.{ℕ, _+_, _≤_, _<_}
 use Rattle.method.specs.Numbers.{infinite}
 use Rattle.method.specs.Graph.{Graph, Comes, GraphLaws, Hunt}
-use Rattle.method.specs.Tables.{Tables, gAt, rhsAt, parentAt, queuedAt, keyNumber, storedKey, lesser, Least}
+use Rattle.method.specs.Tables.{Tables, gAt, rhsAt, parentAt, queuedAt, keyNumber, storedKey, lesser, Via, Least}
 use Rattle.method.specs.Steps.{Kind, put-back, lower, raise}
 
 -- The graph obeys its laws, and hunter and target are cells of it.
@@ -35,12 +35,23 @@ pub record EntryRight (H : Hunt) (T : Tables) (s : ℕ) : Type 0 where
   pub queue : QueueRight T s
   pub full : Inconsistent T s → storedKey T s ≡ key H T s
 
+-- The two ways in which a cell's rhs r and parent p come about: none, or by the parent's move.
+abbrev pub Reached : Graph → (ℕ → ℕ) → ℕ → ℕ → ℕ → Type 0
+Reached G g s r p = ((r ≡ infinite) × (p ≡ 0)) ⊎ ((r < infinite) × Via G g s r p)
+
+-- rhs and parent of s are the least over the moves into it.
+abbrev pub LeastAt : Graph → Tables → ℕ → Type 0
+LeastAt G T s = Least G (λ w. gAt T w) s (rhsAt T s) (parentAt T s)
+
+abbrev pub ReachedAt : Graph → Tables → ℕ → Type 0
+ReachedAt G T s = Reached G (λ w. gAt T w) s (rhsAt T s) (parentAt T s)
+
 -- Soundness but for the sizes, the session and the bounds on numbers.
 pub record Right (H : Hunt) (T : Tables) : Type 0 where
   pub g-le : (s : ℕ) → s < H .graph .cells → gAt T s ≤ infinite
   pub hunter-finite : rhsAt T (H .hunter) < infinite
   pub hunter-parent : parentAt T (H .hunter) ≡ 0
-  pub least : (s : ℕ) → s < H .graph .cells → s ≢ H .hunter → Least (H .graph) (λ w. gAt T w) s (rhsAt T s) (parentAt T s)
+  pub least : (s : ℕ) → s < H .graph .cells → s ≢ H .hunter → LeastAt (H .graph) T s
   pub queue : (s : ℕ) → s < H .graph .cells → QueueRight T s
   pub keys : (s : ℕ) → s < H .graph .cells → Inconsistent T s → storedKey T s ≤ key H T s
 
@@ -99,7 +110,7 @@ pub record Renewed (H : Hunt) (T T′ : Tables) (u s : ℕ) : Type 0 where
   pub not-hunter : s ≢ H .hunter
   pub cost : ℕ
   pub comes : Comes (H .graph) s (parentAt T s) u cost
-  pub found : Least (H .graph) (λ w. gAt T′ w) s (rhsAt T′ s) (parentAt T′ s)
+  pub found : LeastAt (H .graph) T′ s
   pub entry : s ≢ u → EntryRight H T′ s
 
 pub record Raise (H : Hunt) (T T′ : Tables) (u : ℕ) : Type 0 where
@@ -109,6 +120,11 @@ pub record Raise (H : Hunt) (T T′ : Tables) (u : ℕ) : Type 0 where
   pub g : (s : ℕ) → s < H .graph .cells → s ≢ u → gAt T′ s ≡ gAt T s
   pub entry-u : EntryRight H T′ u
   pub cells : (s : ℕ) → s < H .graph .cells → Kept H T T′ u s ⊎ Renewed H T T′ u s
+
+-- The hunter keeps rhs and parent.
+pub record HunterKept (H : Hunt) (T T′ : Tables) : Type 0 where
+  pub rhs : rhsAt T′ (H .hunter) ≡ rhsAt T (H .hunter)
+  pub parent : parentAt T′ (H .hunter) ≡ parentAt T (H .hunter)
 
 -- What a step of a kind did on u.
 pub data Did (H : Hunt) (T T′ : Tables) (u : ℕ) : Kind → Type 0 where

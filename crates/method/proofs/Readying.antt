@@ -1,24 +1,23 @@
 -- Before the loop: a fresh start, a new target and a new hunter leave tables that are right for the search.
 use mathlib.Core.Path.{_≡_, refl, sym, ap, _∙_}
-use mathlib.Core.Bool.{true, false}
-use mathlib.Core.Logic.{_⊎_, inl, inr, _≢_}
+use mathlib.Core.Bool.{false}
+use mathlib.Core.Logic.{inl, _≢_}
 use Prim.Native.Nat.{ℕ, suc, _+_, _*_, _≤_, _<_}
 use native.Mathlib.Omega.{arith}
-use native.Mathlib.Decide.{ℕ-discrete}
-use lib.ListN.{getD, set, replicate, length-set, length-replicate, getD-replicate}
+use lib.ListN.{getD, set, length-set, length-replicate, getD-replicate}
 use lib.Seq.{getD-set-same, getD-set-other}
 use Rattle.method.specs.Numbers.{infinite, mostCost, mostEstimate, mostSearches, growth}
 use Rattle.method.specs.Graph.{Graph, GraphLaws, Hunt}
-use Rattle.method.specs.Tables.{Tables, Sized, gAt, rhsAt, parentAt, queuedAt, withRhs, storedKey, setRight, anew, foundAnew, Least}
-use Rattle.method.specs.Session.{Session, huntOf, State, opened, blank, fresh, freshStart, targetTaken, hunterTaken, handedOver, takenOver, counted}
+use Rattle.method.specs.Tables.{Tables, Sized, gAt, rhsAt, parentAt, queuedAt, storedKey, anew, Least}
+use Rattle.method.specs.Session.{Session, huntOf, State, opened, blank, fresh, freshStart, targetTaken, hunterTaken, handedOver, takenOver}
 use Rattle.method.specs.Sound.{Sound}
 use Rattle.method.proofs.Choices.{choose-is}
-use Rattle.method.proofs.Notions.{Stands, QueueRight, Right}
+use Rattle.method.proofs.Notions.{Stands, Right}
 use Rattle.method.proofs.Keeping.{Held, queue-same}
-use Rattle.method.proofs.Bounds.{Bound, rhs-bound, During, starts}
+use Rattle.method.proofs.Bounds.{Bound, rhs-bound}
 use Rattle.method.proofs.LeastSums.{anew-least, least-cast}
-use Rattle.method.proofs.Entries.{withRhs-sized, setRight-sized, foundAnew-sized, Reset, reset}
-use Rattle.method.proofs.Soundness.{sound-stands, sound-right, sound-bound, Within, right-sound, reset-right}
+use Rattle.method.proofs.Entries.{withRhs-sized, setRight-sized, foundAnew-sized, Reset, reset, anew-reset}
+use Rattle.method.proofs.Soundness.{sound-right, sound-bound, reset-right}
 
 -- ---- a fresh start
 
@@ -58,11 +57,13 @@ blank-cell n s l = record {
 module _ {G : Graph} (L : GraphLaws G) {hunter target : ℕ} (lh : hunter < G .cells) where
   fresh-reset : Reset (huntOf G (opened hunter target)) (blank (G .cells)) (fresh G hunter target) hunter 0 0
   unfolding fresh
-  fresh-reset = reset (huntOf G (opened hunter target)) (blank (G .cells)) hunter 0 0 (blank-sized (G .cells)) lh (omega (arith, blank-cell (G .cells) hunter lh .g)) (omega arith)
+  fresh-reset =
+      reset (huntOf G (opened hunter target)) (blank (G .cells)) hunter 0 0 (blank-sized (G .cells)) lh (omega (arith, blank-cell (G .cells) hunter lh .g)) (omega arith)
 
   pub fresh-right : Right (huntOf G (opened hunter target)) (fresh G hunter target)
   fresh-right =
-      reset-right fresh-reset (λ s l. omega (arith, blank-cell (G .cells) s l .g)) (omega (arith, fresh-reset .rhs)) (fresh-reset .parent) (λ s l _ _. least s l) (λ n. absurd (n refl)) (λ s l _. held s l)
+      reset-right fresh-reset (λ s l. omega (arith, blank-cell (G .cells) s l .g)) (omega (arith, fresh-reset .rhs)) (fresh-reset .parent)
+      (λ s l _ _. least s l) (λ n. absurd (n refl)) (λ s l _. held s l)
     where
       least : (s : ℕ) → s < G .cells → Least G (λ w. gAt (blank (G .cells)) w) s (rhsAt (blank (G .cells)) s) (parentAt (blank (G .cells)) s)
       least s l =
@@ -88,7 +89,7 @@ module _ {G : Graph} (L : GraphLaws G) {hunter target : ℕ} (lh : hunter < G .c
 -- ---- a new target
 
 -- the stored keys stay below the calculated ones: km makes up for the estimate
-pub target-right : {G : Graph} → GraphLaws G → (σ : Session) {T : Tables} → Right (huntOf G σ) T → Right (huntOf G (targetTaken G σ)) T
+target-right : {G : Graph} → GraphLaws G → (σ : Session) {T : Tables} → Right (huntOf G σ) T → Right (huntOf G (targetTaken G σ)) T
 target-right L σ R = record {
   g-le = R .g-le;
   hunter-finite = R .hunter-finite;
@@ -100,27 +101,29 @@ target-right L σ R = record {
 
 -- ---- a new hunter
 
-pub handedOver-sized : {n : ℕ} {T : Tables} → Sized n T → (H : Hunt) (old : ℕ) → Sized n (handedOver H T old)
-unfolding handedOver
-handedOver-sized {T = T} z H old =
-    foundAnew-sized (record { g = z .g; rhs = z .rhs; parent = length-set (T .parent) (H .hunter) 0 ∙ z .parent; k1 = z .k1; k2 = z .k2; queued = z .queued }) H old
-
 -- The same hunt with another hunter, and the tables where that cell has no parent.
-abbrev pub handTo : Hunt → ℕ → Hunt
+abbrev handTo : Hunt → ℕ → Hunt
 handTo H new = record { graph = H .graph; hunter = new; target = H .target; km = H .km }
 
 abbrev orphaned : Tables → ℕ → Tables
 orphaned T new = record { g = T .g; rhs = T .rhs; parent = set (T .parent) new 0; k1 = T .k1; k2 = T .k2; queued = T .queued }
 
--- the old hunter's cell is found anew; the new hunter has no parent; the other cells stay
-module _ {H : Hunt} {T : Tables} {new : ℕ} (L : Stands H) (z : Sized (H .graph .cells) T) (R : Right H T) (ln : new < H .graph .cells) (ne : new ≢ H .hunter) (fin : rhsAt T new < infinite) where
-  handed-reset : Reset (handTo H new) (orphaned T new) (handedOver (handTo H new) T (H .hunter)) (H .hunter) (anew (H .graph) (T .g) (H .hunter) .sum) (anew (H .graph) (T .g) (H .hunter) .code)
-  unfolding handedOver foundAnew
-  handed-reset =
-      reset (handTo H new) (orphaned T new) (H .hunter) (anew (H .graph) (T .g) (H .hunter) .sum) (anew (H .graph) (T .g) (H .hunter) .code)
-      (record { g = z .g; rhs = z .rhs; parent = length-set (T .parent) new 0 ∙ z .parent; k1 = z .k1; k2 = z .k2; queued = z .queued }) (L .hunter-in) (R .g-le (H .hunter) (L .hunter-in)) (anew-least (H .graph) (T .g) (H .hunter) .le-inf)
+orphaned-sized : {n : ℕ} {T : Tables} → Sized n T → (new : ℕ) → Sized n (orphaned T new)
+orphaned-sized {T = T} z new = record { g = z .g; rhs = z .rhs; parent = length-set (T .parent) new 0 ∙ z .parent; k1 = z .k1; k2 = z .k2; queued = z .queued }
 
-  pub handed-right : Right (handTo H new) (handedOver (handTo H new) T (H .hunter))
+pub handedOver-sized : {n : ℕ} {T : Tables} → Sized n T → (H : Hunt) (old : ℕ) → Sized n (handedOver H T old)
+unfolding handedOver
+handedOver-sized z H old = foundAnew-sized (orphaned-sized z (H .hunter)) H old
+
+-- the old hunter's cell is found anew; the new hunter has no parent; the other cells stay
+module _ {H : Hunt} {T : Tables} {new : ℕ} (L : Stands H) (z : Sized (H .graph .cells) T) (R : Right H T)
+    (ln : new < H .graph .cells) (ne : new ≢ H .hunter) (fin : rhsAt T new < infinite) where
+  handed-reset : Reset (handTo H new) (orphaned T new) (handedOver (handTo H new) T (H .hunter)) (H .hunter)
+      (anew (H .graph) (T .g) (H .hunter) .sum) (anew (H .graph) (T .g) (H .hunter) .code)
+  unfolding handedOver
+  handed-reset = anew-reset (handTo H new) (orphaned T new) (H .hunter) (orphaned-sized z new) (L .hunter-in) (R .g-le (H .hunter) (L .hunter-in))
+
+  handed-right : Right (handTo H new) (handedOver (handTo H new) T (H .hunter))
   handed-right =
       let e = handed-reset .other new ne in
       reset-right handed-reset (R .g-le) (omega (arith, e .rhs)) (e .parent ∙ getD-set-same (T .parent) new 0 0 (omega (arith, z .parent)))
@@ -128,7 +131,7 @@ module _ {H : Hunt} {T : Tables} {new : ℕ} (L : Stands H) (z : Sized (H .graph
       (λ s l _. (queue-same T (orphaned T new) s refl refl (record { stored = refl; queued = refl }) (R .queue s l), R .keys s l))
 
   -- the bound rises by one cost
-  pub handed-bound : {A : ℕ} → Bound H A T → Bound (handTo H new) (A + mostCost) (handedOver (handTo H new) T (H .hunter))
+  handed-bound : {A : ℕ} → Bound H A T → Bound (handTo H new) (A + mostCost) (handedOver (handTo H new) T (H .hunter))
   handed-bound b = record {
     g = λ s l f. omega (arith, ap (λ x. getD x s 0) (handed-reset .g), b .g s l (omega (arith, ap (λ x. getD x s 0) (handed-reset .g))));
     hunter = omega (arith, handed-reset .other new ne .rhs, rhs-bound L R b new ln fin);
@@ -203,6 +206,16 @@ module _ {G : Graph} (L : GraphLaws G) {σ : Session} {T : Tables} (S : Sound G 
   pub ready : Ready G σ (takenOver G σ T)
   unfolding takenOver
   ready =
-      choose-is (λ s. Ready G σ s) (ℕ-discrete (σ .searches) mostSearches) (λ _. ready-fresh)
-      (λ n. choose-is (λ s. Ready G σ s) (ℕ-discrete (σ .hunter) (σ .lastHunter)) (ready-target n)
-      (λ ne. choose-is (λ s. Ready G σ s) (ℕ-discrete (rhsAt T (σ .hunter)) infinite) (λ _. ready-fresh) (ready-hunter n ne)))
+      choose-is (λ s. Ready G σ s) _ (λ _. ready-fresh)
+      (λ n. choose-is (λ s. Ready G σ s) _ (ready-target n)
+      (λ ne. choose-is (λ s. Ready G σ s) _ (λ _. ready-fresh) (ready-hunter n ne)))
+
+pub takenOver-sized : (G : Graph) (σ : Session) {T : Tables} → Sized (G .cells) T → Sized (G .cells) (takenOver G σ T .tables)
+unfolding takenOver
+takenOver-sized G σ z =
+    choose-is Q _ (λ _. fresh-sized G (σ .hunter) (σ .target))
+    (λ _. choose-is Q _ (λ _. z)
+    (λ _. choose-is Q _ (λ _. fresh-sized G (σ .hunter) (σ .target)) (λ _. handedOver-sized z (huntOf G (hunterTaken (targetTaken G σ))) (σ .lastHunter))))
+  where
+    Q : State → Type 0
+    Q s = Sized (G .cells) (s .tables)

@@ -1,27 +1,27 @@
 -- The loop: how it unrolls, what holds after each step, and that no step comes twice.
 use mathlib.Core.Path.{_≡_, refl, sym, ap, _∙_}
-use mathlib.Core.Bool.{Bool, true, false, true≢false, false≢true}
-use mathlib.Core.Logic.{_⊎_, inl, inr, _≢_}
+use mathlib.Core.Bool.{true, false, true≢false, false≢true}
+use mathlib.Core.Logic.{_⊎_, inl, inr}
 use mathlib.Core.Option.{Option, none, some}
-use mathlib.Core.List.{List, [], _∷_, List·Memᴰ, List·Memᴰ·not-nil, List·Memᴰ·cases-cons}
-use Prim.Native.Nat.{ℕ, zero, suc, _+_, _≤_, _<_}
+use mathlib.Core.List.{[], List·Memᴰ, List·Memᴰ·not-nil, List·Memᴰ·cases-cons}
+use Prim.Native.Nat.{ℕ, zero, suc, _≤_, _<_}
 use native.Mathlib.Omega.{arith}
 use native.Mathlib.Decide.{ℕ-discrete}
 use lib.ListN.{length}
-use Rattle.method.specs.Numbers.{infinite, mostEstimate}
+use Rattle.method.specs.Numbers.{infinite}
 use Rattle.method.specs.Graph.{Hunt}
-use Rattle.method.specs.Tables.{Tables, gAt, rhsAt, queuedAt, storedKey, lesser, firstKey, calculatedKey}
-use Rattle.method.specs.Steps.{Kind, kindOf, stepped}
-use Rattle.method.specs.Loop.{leastQueued, goesOn, nextCell, Step, Ran, after, isNone, runOn, run}
+use Rattle.method.specs.Tables.{Tables, Sized, gAt, rhsAt, queuedAt, storedKey, lesser, calculatedKey}
+use Rattle.method.specs.Steps.{kindOf, stepped}
+use Rattle.method.specs.Loop.{leastQueued, nextCell, Step, Ran, after, isNone, runOn, run}
 use Rattle.method.specs.Course.{Before, LeastCell, Continues}
 use Rattle.method.specs.Walk.{Once, none-yet, one-more}
-use Rattle.method.proofs.Notions.{key, Inconsistent, Right, Pick, Did}
+use Rattle.method.proofs.Notions.{Inconsistent, Pick, Did}
 use Rattle.method.proofs.Facts.{Due, Fact, rhs-le, fact-keep, fact-gain, fact-new, toCome, toCome-drop}
 use Rattle.method.proofs.Answers.{Stopped}
-use Rattle.method.proofs.Bounds.{During, due, during-keep, during-last, lesser-most}
+use Rattle.method.proofs.Bounds.{During, due, during-keep, during-last, lesser-finite, lesser-most}
 use Rattle.method.proofs.Entries.{first-finite, first-infinite}
 use Rattle.method.proofs.Stepping.{stepped-sized, step-is}
-use Rattle.method.proofs.Taking.{Named, least-is, Next, next-is, next-none}
+use Rattle.method.proofs.Taking.{Named, least-is, next-is}
 
 -- The step that the loop takes on cell u.
 abbrev pub stepOn : Hunt → Tables → ℕ → Step
@@ -44,12 +44,24 @@ pub run-some : (H : Hunt) (limit : ℕ) (T : Tables) (u : ℕ) → nextCell H T 
 unfolding run runOn
 run-some H limit T u e = ap (λ o. runOn H (λ x. run H limit x) T o) e
 
+pub run-sized : {n : ℕ} {T : Tables} → Sized n T → (H : Hunt) (limit : ℕ) → Sized n (run H limit T .tables)
+run-sized {n} {T} z H zero = rw (run-zero H T) z
+run-sized {n} {T} z H (suc limit) = at (λ u. run-sized (stepped-sized z H u) H limit) (nextCell H T) refl
+  where
+    at : ((u : ℕ) → Sized n (run H limit (stepped H T u) .tables)) → (o : Option ℕ) → nextCell H T ≡ o → Sized n (run H (suc limit) T .tables)
+    at ih none e = rw (run-none H (suc limit) T e) z
+    at ih (some u) e = rw (run-some H limit T u e) (ih u)
+
 -- ---- what holds at the next cell, and at the end
 
 module _ {H : Hunt} {A : ℕ} {T : Tables} (D : During H A T) where
   -- the least queued cell is one to take
   pick-least : {u : ℕ} → LeastCell (H .graph) T (H .graph .cells) u → Pick H T u
-  pick-least {u} F = record { u-in = F .u-in; queued = λ c. true≢false (sym (F .queued) ∙ D .right .queue u (F .u-in) .not-in-queue c); first = λ s l q. at s l q (ℕ-discrete s u) }
+  pick-least {u} F = record {
+    u-in = F .u-in;
+    queued = λ c. true≢false (sym (F .queued) ∙ D .right .queue u (F .u-in) .not-in-queue c);
+    first = λ s l q. at s l q (ℕ-discrete s u);
+  }
     where
       le : (s : ℕ) → Before (H .graph) T u s → storedKey T u ≤ storedKey T s
       le s (inl x) = omega arith
@@ -91,7 +103,7 @@ module _ {H : Hunt} {A : ℕ} {T : Tables} (D : During H A T) where
             arith,
             first-infinite H (H .target) (lesser T (H .target)) i,
             D .right .keys u l q,
-            lesser-most D u l q,
+            lesser-most D u l (lesser-finite D u l q),
             D .fits,
             D .stands .laws .estimate-le u (H .target) l (D .stands .target-in),
           )
@@ -109,8 +121,8 @@ module _ {H : Hunt} {A : ℕ} {T : Tables} (D : During H A T) where
           finish (yes i) = absurd (n (inl (behind u (F .u-in) (pick-least F .queued) i)))
           finish (no ni) =
               let r : rhsAt T (H .target) ≤ infinite = rhs-le H T (D .right) (H .target) (D .stands .target-in) in
-              let f : firstKey H (H .target) (lesser T (H .target)) ≡ lesser T (H .target) + H .graph .estimate (H .target) (H .target) + H .km = first-finite H (H .target) (lesser T (H .target)) (omega (arith, ni, level)) in
-              record { not-over = level; rest = λ s l q. (omega (arith, ni, level), omega (arith, ahead, pick-least F .first s l q)) }
+              let m : lesser T (H .target) < infinite = omega (arith, ni, level) in
+              record { not-over = level; rest = λ s l q. (omega (arith, level), omega (arith, ahead, first-finite H (H .target) (lesser T (H .target)) m, pick-least F .first s l q)) }
 
       at : (o : Option ℕ) → Named (H .graph) T (H .graph .cells) o → Stopped H T
       at none N = record { not-over = omega (arith, empty N (H .target) (D .stands .target-in)); rest = λ s l q. absurd (q (empty N s l)) }
@@ -188,6 +200,7 @@ module _ {H : Hunt} {A : ℕ} where
       at (some u) e = went-zero D e
   went (suc limit) {T} D = at (λ U E. went limit E) (nextCell H T) refl
     where
-      at : ((U : Tables) (E : During H A U) → Went H A (E .last) limit U (run H limit U)) → (o : Option ℕ) → nextCell H T ≡ o → Went H A (D .last) (suc limit) T (run H (suc limit) T)
+      at : ((U : Tables) (E : During H A U) → Went H A (E .last) limit U (run H limit U)) → (o : Option ℕ) → nextCell H T ≡ o
+          → Went H A (D .last) (suc limit) T (run H (suc limit) T)
       at ih none e = went-none (suc limit) D e
       at ih (some u) e = went-some limit D e (rw (step-last D e) at (ih (stepped H T u) (during-step D e)))

@@ -1,8 +1,8 @@
 -- Sound tables are right tables with bounded numbers, and the other way round; one cell reset leaves right tables.
-use mathlib.Core.Path.{_≡_, refl, sym, ap, _∙_}
-use mathlib.Core.Bool.{true, false, true≢false, false≢true}
+use mathlib.Core.Path.{_≡_, sym, ap, _∙_}
+use mathlib.Core.Bool.{false, true≢false, false≢true}
 use mathlib.Core.Logic.{_⊎_, inl, inr, _≢_}
-use Prim.Native.Nat.{ℕ, _+_, _*_, _≤_, _<_}
+use Prim.Native.Nat.{ℕ, _*_, _≤_, _<_}
 use native.Mathlib.Omega.{arith}
 use native.Mathlib.Decide.{ℕ-discrete}
 use lib.ListN.{getD}
@@ -11,7 +11,7 @@ use Rattle.method.specs.Graph.{Graph, GraphLaws, Hunt}
 use Rattle.method.specs.Tables.{Tables, Sized, gAt, rhsAt, parentAt, queuedAt, storedKey, calculatedKey, Least}
 use Rattle.method.specs.Session.{Session, huntOf}
 use Rattle.method.specs.Sound.{Sound}
-use Rattle.method.proofs.Notions.{Stands, key, Inconsistent, Right}
+use Rattle.method.proofs.Notions.{Stands, Inconsistent, LeastAt, Right}
 use Rattle.method.proofs.Facts.{rhs-le}
 use Rattle.method.proofs.Keeping.{Held, held-right, held-same}
 use Rattle.method.proofs.Bounds.{Bound}
@@ -59,7 +59,8 @@ pub record Within (G : Graph) (σ : Session) : Type 0 where
   pub searches-le : σ .searches ≤ mostSearches
   pub km-le : σ .km ≤ mostEstimate * σ .searches
 
-pub right-sound : {G : Graph} {σ : Session} {T : Tables} → Within G σ → Sized (G .cells) T → Right (huntOf G σ) T → Bound (huntOf G σ) (growth * σ .searches) T → Sound G σ T
+pub right-sound : {G : Graph} {σ : Session} {T : Tables} → Within G σ → Sized (G .cells) T → Right (huntOf G σ) T
+    → Bound (huntOf G σ) (growth * σ .searches) T → Sound G σ T
 right-sound {G} {σ} {T} W z R b = record {
   sized = z;
   hunter-in = W .hunter-in;
@@ -91,8 +92,9 @@ right-sound {G} {σ} {T} W z R b = record {
     g-le s l (no n) = inr (b .g s l (omega (arith, n, R .g-le s l)))
 
 -- Right tables after one cell v was reset, where all the others were right.
-pub reset-right : {H : Hunt} {T E : Tables} {v r p : ℕ} → Reset H T E v r p → ((s : ℕ) → s < H .graph .cells → gAt T s ≤ infinite) → rhsAt E (H .hunter) < infinite → parentAt E (H .hunter) ≡ 0
-    → ((s : ℕ) → s < H .graph .cells → s ≢ H .hunter → s ≢ v → Least (H .graph) (λ w. gAt T w) s (rhsAt T s) (parentAt T s))
+pub reset-right : {H : Hunt} {T E : Tables} {v r p : ℕ} → Reset H T E v r p → ((s : ℕ) → s < H .graph .cells → gAt T s ≤ infinite)
+    → rhsAt E (H .hunter) < infinite → parentAt E (H .hunter) ≡ 0
+    → ((s : ℕ) → s < H .graph .cells → s ≢ H .hunter → s ≢ v → LeastAt (H .graph) T s)
     → (v ≢ H .hunter → Least (H .graph) (λ w. gAt T w) v r p)
     → ((s : ℕ) → s < H .graph .cells → s ≢ v → Held H T s) → Right H E
 reset-right {H} {T} {E} {v} R g-le fin par least here held = record {
@@ -107,7 +109,7 @@ reset-right {H} {T} {E} {v} R g-le fin par least here held = record {
     g-at : (s : ℕ) → gAt E s ≡ gAt T s
     g-at s = ap (λ x. getD x s 0) (R .g)
 
-    cell : (s : ℕ) → s < H .graph .cells → s ≢ H .hunter → Dec (s ≡ v) → Least (H .graph) (λ w. gAt E w) s (rhsAt E s) (parentAt E s)
+    cell : (s : ℕ) → s < H .graph .cells → s ≢ H .hunter → Dec (s ≡ v) → LeastAt (H .graph) E s
     cell s l ns (yes e) = rw e (least-cast (R .g) (R .rhs) (R .parent) (here (rw e at ns)))
     cell s l ns (no n) = least-cast (R .g) (R .other s n .rhs) (R .other s n .parent) (least s l ns n)
 

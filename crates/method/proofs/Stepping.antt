@@ -1,5 +1,5 @@
 -- Document 01's step on the lists of the tables is a step of the kind that `kindOf` names.
-use mathlib.Core.Path.{_≡_, refl, sym, ap, _∙_}
+use mathlib.Core.Path.{_≡_, refl, ap, _∙_}
 use mathlib.Core.Bool.{false}
 use mathlib.Core.Logic.{_⊎_, inl, inr, _≢_}
 use mathlib.Core.List.{List, [], _∷_, List·Memᴰ, List·Memᴰ·head, List·Memᴰ·tail, List·Memᴰ·not-nil, List·Memᴰ·cases-cons, List·Memᴰ·eq-of-singleton}
@@ -9,23 +9,23 @@ use native.Mathlib.Decide.{ℕ-discrete, decLt}
 use lib.ListN.{getD, set}
 use lib.Seq.{getD-set-same, getD-set-other}
 use Rattle.method.specs.Numbers.{infinite}
-use Rattle.method.specs.Graph.{Move, move, Graph, Comes, Hunt}
+use Rattle.method.specs.Graph.{Move, move, Hunt}
 use Rattle.method.specs.Tables.{Tables, Sized, gAt, rhsAt, parentAt, withG, withRhs, storedKey, calculatedKey, choose, enter, leave, setRight, anew, foundAnew}
-use Rattle.method.specs.Steps.{relaxed, relaxedAll, lowered, renewed, renewedAll, raised, Kind, put-back, lower, raise, kindOf, stepped}
+use Rattle.method.specs.Steps.{relaxed, relaxedAll, lowered, renewed, renewedAll, raised, put-back, lower, raise, kindOf, stepped}
 use Rattle.method.proofs.Choices.{choose-is}
-use Rattle.method.proofs.Notions.{Stands, key, Inconsistent, EntryRight, Right, Pick, SameEntry, Same, PutBack, Lowered, Lower, Kept, Renewed, Raise, Did, did-put-back, did-lower, did-raise}
+use Rattle.method.proofs.Notions.{Stands, key, EntryRight, Right, Pick, Same, PutBack, Lowered, Lower, Kept, Renewed, Raise, Did, did-put-back, did-lower, did-raise}
 use Rattle.method.proofs.Facts.{rhs-le}
 use Rattle.method.proofs.Keeping.{entry-same}
 use Rattle.method.proofs.LeastSums.{anew-least, least-cast}
-use Rattle.method.proofs.Entries.{withG-sized, withRhs-sized, withEntry-sized, enter-sized, setRight-sized, foundAnew-sized, key-finite, other-entry, Righted, leave-righted, enter-righted, righted, Reset, reset}
+use Rattle.method.proofs.Entries.{withG-sized, withRhs-sized, withEntry-sized, enter-sized, setRight-sized, foundAnew-sized, key-finite, other-entry, Righted, leave-righted, enter-righted, righted, Reset, reset, anew-reset}
 
 -- ---- the lengths
 
 pub relaxed-sized : {n : ℕ} {T : Tables} → Sized n T → (H : Hunt) (v : ℕ) (m : Move) → Sized n (relaxed H v T m)
 unfolding relaxed
 relaxed-sized {n} {T} z H v m =
-    choose-is (λ x. Sized n x) (ℕ-discrete (m .cell) (H .hunter)) (λ _. z)
-    (λ _. choose-is (λ x. Sized n x) (decLt (v + m .cost) (rhsAt T (m .cell))) (λ _. setRight-sized (withRhs-sized z (m .cell) (v + m .cost) (m .code)) H (m .cell)) (λ _. z))
+    choose-is (λ x. Sized n x) _ (λ _. z)
+    (λ _. choose-is (λ x. Sized n x) _ (λ _. setRight-sized (withRhs-sized z (m .cell) (v + m .cost) (m .code)) H (m .cell)) (λ _. z))
 
 pub relaxedAll-sized : {n : ℕ} {T : Tables} → Sized n T → (H : Hunt) (v : ℕ) (l : List Move) → Sized n (relaxedAll H v T l)
 unfolding relaxedAll
@@ -39,8 +39,8 @@ lowered-sized {T = T} z H u = relaxedAll-sized (withEntry-sized (withG-sized z u
 pub renewed-sized : {n : ℕ} {T : Tables} → Sized n T → (H : Hunt) (m : Move) → Sized n (renewed H T m)
 unfolding renewed
 renewed-sized {n} {T} z H m =
-    choose-is (λ x. Sized n x) (ℕ-discrete (m .cell) (H .hunter)) (λ _. z)
-    (λ _. choose-is (λ x. Sized n x) (ℕ-discrete (parentAt T (m .cell)) (m .code)) (λ _. foundAnew-sized z H (m .cell)) (λ _. z))
+    choose-is (λ x. Sized n x) _ (λ _. z)
+    (λ _. choose-is (λ x. Sized n x) _ (λ _. foundAnew-sized z H (m .cell)) (λ _. z))
 
 pub renewedAll-sized : {n : ℕ} {T : Tables} → Sized n T → (H : Hunt) (l : List Move) → Sized n (renewedAll H T l)
 unfolding renewedAll
@@ -54,8 +54,8 @@ raised-sized z H u = setRight-sized (renewedAll-sized (withG-sized z u infinite)
 pub stepped-sized : {n : ℕ} {T : Tables} → Sized n T → (H : Hunt) (u : ℕ) → Sized n (stepped H T u)
 unfolding stepped
 stepped-sized {n} {T} z H u =
-    choose-is (λ x. Sized n x) (decLt (storedKey T u) (calculatedKey H T u)) (λ _. enter-sized z H u)
-    (λ _. choose-is (λ x. Sized n x) (decLt (rhsAt T u) (gAt T u)) (λ _. lowered-sized z H u) (λ _. raised-sized z H u))
+    choose-is (λ x. Sized n x) _ (λ _. enter-sized z H u)
+    (λ _. choose-is (λ x. Sized n x) _ (λ _. lowered-sized z H u) (λ _. raised-sized z H u))
 
 -- ---- lower: what relaxing a list of moves does to one cell
 
@@ -63,7 +63,11 @@ same-refl : (T : Tables) (t : ℕ) → Same T T t
 same-refl T t = record { rhs = refl; parent = refl; entry = record { stored = refl; queued = refl } }
 
 same-join : {T U E : Tables} {t : ℕ} → Same T U t → Same U E t → Same T E t
-same-join m k = record { rhs = k .rhs ∙ m .rhs; parent = k .parent ∙ m .parent; entry = record { stored = k .entry .stored ∙ m .entry .stored; queued = k .entry .queued ∙ m .entry .queued } }
+same-join m k = record {
+  rhs = k .rhs ∙ m .rhs;
+  parent = k .parent ∙ m .parent;
+  entry = record { stored = k .entry .stored ∙ m .entry .stored; queued = k .entry .queued ∙ m .entry .queued };
+}
 
 -- every g and rhs of n cells is at most infinite
 Small : ℕ → Tables → Type 0
@@ -94,8 +98,8 @@ module _ (H : Hunt) (v n : ℕ) where
   relax-one : (T : Tables) (m : Move) → Sized n T → m .cell < n → Small n T → Relaxes H v n (m ∷ []) T (relaxed H v T m)
   unfolding relaxed Small
   relax-one T m z l small =
-      choose-is (λ x. Relaxes H v n (m ∷ []) T x) (ℕ-discrete s (H .hunter)) (λ e. stays (λ ns. absurd (ns e)))
-      (λ ns. choose-is (λ x. Relaxes H v n (m ∷ []) T x) (decLt (v + m .cost) (rhsAt T s)) (sinks ns) (λ nlt. stays (λ _. omega arith)))
+      choose-is (λ x. Relaxes H v n (m ∷ []) T x) _ (λ e. stays (λ ns. absurd (ns e)))
+      (λ ns. choose-is (λ x. Relaxes H v n (m ∷ []) T x) _ (sinks ns) (λ nlt. stays (λ _. omega arith)))
     where
       s : ℕ
       s = m .cell
@@ -110,13 +114,16 @@ module _ (H : Hunt) (v n : ℕ) where
       stays : (s ≢ H .hunter → rhsAt T s ≤ v + m .cost) → Relaxes H v n (m ∷ []) T T
       stays f = record { g = refl; cells = λ t _. inl (same-refl T t); fits = fit T f }
 
-      sinks : s ≢ H .hunter → v + m .cost < rhsAt T s → Relaxes H v n (m ∷ []) T (setRight H (withRhs T s (v + m .cost) (m .code)) s)
-      sinks ns lt = record { g = R .g; cells = λ t _. cell t (ℕ-discrete t s); fits = fit (setRight H (withRhs T s (v + m .cost) (m .code)) s) (λ _. omega (arith, R .rhs)) }
+      E : Tables
+      E = setRight H (withRhs T s (v + m .cost) (m .code)) s
+
+      sinks : s ≢ H .hunter → v + m .cost < rhsAt T s → Relaxes H v n (m ∷ []) T E
+      sinks ns lt = record { g = R .g; cells = λ t _. cell t (ℕ-discrete t s); fits = fit E (λ _. omega (arith, R .rhs)) }
         where
-          R : Reset H T (setRight H (withRhs T s (v + m .cost) (m .code)) s) s (v + m .cost) (m .code)
+          R : Reset H T E s (v + m .cost) (m .code)
           R = reset H T s (v + m .cost) (m .code) z l (small s l .0) (omega (arith, small s l .1))
 
-          cell : (t : ℕ) → Dec (t ≡ s) → Same T (setRight H (withRhs T s (v + m .cost) (m .code)) s) t ⊎ Sunk H v (m ∷ []) T (setRight H (withRhs T s (v + m .cost) (m .code)) s) t
+          cell : (t : ℕ) → Dec (t ≡ s) → Same T E t ⊎ Sunk H v (m ∷ []) T E t
           cell t (yes e) = rw e (inr (record {
             not-hunter = ns;
             cost = m .cost;
@@ -128,15 +135,22 @@ module _ (H : Hunt) (v n : ℕ) where
           cell t (no ne) = inl (R .other t ne)
 
   relax-join : (m : Move) (l : List Move) (T U E : Tables) → Relaxes H v n (m ∷ []) T U → Relaxes H v n l U E → Relaxes H v n (m ∷ l) T E
-  relax-join m l T U E P Q = record { g = Q .g ∙ P .g; cells = λ t lt. join t (P .cells t lt) (Q .cells t lt); fits = λ t k c lt ns i. fit t k c lt ns (List·Memᴰ·cases-cons i) }
+  relax-join m l T U E P Q = record {
+    g = Q .g ∙ P .g;
+    cells = λ t lt. join t (P .cells t lt) (Q .cells t lt);
+    fits = λ t k c lt ns i. fit t k c lt ns (List·Memᴰ·cases-cons i);
+  }
     where
       fit : (t k c : ℕ) → t < n → t ≢ H .hunter → (move k t c ≡ m) ⊎ List·Memᴰ (move k t c) l → rhsAt E t ≤ v + c
       fit t k c lt ns (inl e) = omega (arith, P .fits t k c lt ns (List·Memᴰ·head e), falls Q t lt)
       fit t k c lt ns (inr i) = Q .fits t k c lt ns i
 
+      later : (t : ℕ) → Sunk H v l U E t → rhsAt E t < rhsAt T t → Sunk H v (m ∷ l) T E t
+      later t q lt = record { not-hunter = q .not-hunter; cost = q .cost; mem = List·Memᴰ·tail (q .mem); sum = q .sum; less = lt; entry = q .entry }
+
       join : (t : ℕ) → Same T U t ⊎ Sunk H v (m ∷ []) T U t → Same U E t ⊎ Sunk H v l U E t → Same T E t ⊎ Sunk H v (m ∷ l) T E t
       join t (inl p) (inl q) = inl (same-join p q)
-      join t (inl p) (inr q) = inr (record { not-hunter = q .not-hunter; cost = q .cost; mem = List·Memᴰ·tail (q .mem); sum = q .sum; less = omega (arith, q .less, p .rhs); entry = q .entry })
+      join t (inl p) (inr q) = inr (later t q (omega (arith, q .less, p .rhs)))
       join t (inr p) (inl q) = inr (record {
         not-hunter = p .not-hunter;
         cost = p .cost;
@@ -145,15 +159,16 @@ module _ (H : Hunt) (v n : ℕ) where
         less = omega (arith, p .less, q .rhs);
         entry = entry-same H U E t (ap (λ x. getD x t 0) (Q .g)) (q .rhs) (q .entry) (p .entry);
       })
-      join t (inr p) (inr q) = inr (record { not-hunter = q .not-hunter; cost = q .cost; mem = List·Memᴰ·tail (q .mem); sum = q .sum; less = omega (arith, q .less, p .less); entry = q .entry })
+      join t (inr p) (inr q) = inr (later t q (omega (arith, q .less, p .less)))
 
   relax-all : (T : Tables) (l : List Move) → Sized n T → ((k t c : ℕ) → List·Memᴰ (move k t c) l → t < n) → Small n T → Relaxes H v n l T (relaxedAll H v T l)
   unfolding relaxedAll Small
   relax-all T [] z f small = record { g = refl; cells = λ t _. inl (same-refl T t); fits = λ t k c lt ns i. absurd (List·Memᴰ·not-nil i) }
   relax-all T (m ∷ l) z f small =
       let P = relax-one T m z (f (m .code) (m .cell) (m .cost) (List·Memᴰ·head refl)) small in
+      let small′ : Small n (relaxed H v T m) = λ t lt. (omega (arith, ap (λ x. getD x t 0) (P .g), small t lt .0), omega (arith, falls P t lt, small t lt .1)) in
       relax-join m l T (relaxed H v T m) (relaxedAll H v (relaxed H v T m) l) P
-      (relax-all (relaxed H v T m) l (relaxed-sized z H v m) (λ k t c i. f k t c (List·Memᴰ·tail i)) (λ t lt. (omega (arith, ap (λ x. getD x t 0) (P .g), small t lt .0), omega (arith, falls P t lt, small t lt .1))))
+      (relax-all (relaxed H v T m) l (relaxed-sized z H v m) (λ k t c i. f k t c (List·Memᴰ·tail i)) small′)
 
 -- ---- raise: what finding anew along a list of moves does to one cell
 
@@ -175,10 +190,10 @@ record Renews (H : Hunt) (n : ℕ) (l : List Move) (T T′ : Tables) : Type 0 wh
 
 module _ (H : Hunt) (n : ℕ) where
   renew-one : (T : Tables) (m : Move) → Sized n T → m .cell < n → gAt T (m .cell) ≤ infinite → Renews H n (m ∷ []) T (renewed H T m)
-  unfolding renewed foundAnew
+  unfolding renewed
   renew-one T m z l lg =
-      choose-is (λ x. Renews H n (m ∷ []) T x) (ℕ-discrete s (H .hunter)) (λ e. stays (λ ns. absurd (ns e)))
-      (λ ns. choose-is (λ x. Renews H n (m ∷ []) T x) (ℕ-discrete (parentAt T s) (m .code)) (made ns) (λ np. stays (λ _. np)))
+      choose-is (λ x. Renews H n (m ∷ []) T x) _ (λ e. stays (λ ns. absurd (ns e)))
+      (λ ns. choose-is (λ x. Renews H n (m ∷ []) T x) _ (made ns) (λ np. stays (λ _. np)))
     where
       s : ℕ
       s = m .cell
@@ -191,17 +206,21 @@ module _ (H : Hunt) (n : ℕ) where
               let et : t ≡ s = ap (λ x. x .cell) e in
               f (rw et at ns) (rw et at (ap (λ x. x .code) e))
 
-      made : s ≢ H .hunter → parentAt T s ≡ m .code → Renews H n (m ∷ []) T (setRight H (withRhs T s (anew (H .graph) (T .g) s .sum) (anew (H .graph) (T .g) s .code)) s)
+      made : s ≢ H .hunter → parentAt T s ≡ m .code → Renews H n (m ∷ []) T (foundAnew H T s)
       made ns ep = record { g = R .g; cells = λ t _. cell t (ℕ-discrete t s) }
         where
-          E : Tables
-          E = setRight H (withRhs T s (anew (H .graph) (T .g) s .sum) (anew (H .graph) (T .g) s .code)) s
+          R : Reset H T (foundAnew H T s) s (anew (H .graph) (T .g) s .sum) (anew (H .graph) (T .g) s .code)
+          R = anew-reset H T s z l lg
 
-          R : Reset H T E s (anew (H .graph) (T .g) s .sum) (anew (H .graph) (T .g) s .code)
-          R = reset H T s (anew (H .graph) (T .g) s .sum) (anew (H .graph) (T .g) s .code) z l lg (anew-least (H .graph) (T .g) s .le-inf)
-
-          cell : (t : ℕ) → Dec (t ≡ s) → Rests H (m ∷ []) T E t ⊎ Remade H (m ∷ []) T E t
-          cell t (yes e) = rw e (inr (record { not-hunter = ns; cost = m .cost; mem = List·Memᴰ·head (ap (λ k. move k s (m .cost)) ep); rhs = R .rhs; parent = R .parent; entry = R .entry }))
+          cell : (t : ℕ) → Dec (t ≡ s) → Rests H (m ∷ []) T (foundAnew H T s) t ⊎ Remade H (m ∷ []) T (foundAnew H T s) t
+          cell t (yes e) = rw e (inr (record {
+            not-hunter = ns;
+            cost = m .cost;
+            mem = List·Memᴰ·head (ap (λ k. move k s (m .cost)) ep);
+            rhs = R .rhs;
+            parent = R .parent;
+            entry = R .entry;
+          }))
           cell t (no ne) = inl (record { same = R .other t ne; not-parent = λ _ c i. ne (ap (λ x. x .cell) (List·Memᴰ·eq-of-singleton i)) })
 
   renew-join : (m : Move) (l : List Move) (T U E : Tables) → Renews H n (m ∷ []) T U → Renews H n l U E → Renews H n (m ∷ l) T E
@@ -238,7 +257,8 @@ module _ (H : Hunt) (n : ℕ) where
         entry = q .entry;
       })
 
-  renew-all : (T : Tables) (l : List Move) → Sized n T → ((k t c : ℕ) → List·Memᴰ (move k t c) l → t < n) → ((t : ℕ) → t < n → gAt T t ≤ infinite) → Renews H n l T (renewedAll H T l)
+  renew-all : (T : Tables) (l : List Move) → Sized n T → ((k t c : ℕ) → List·Memᴰ (move k t c) l → t < n) → ((t : ℕ) → t < n → gAt T t ≤ infinite)
+      → Renews H n l T (renewedAll H T l)
   unfolding renewedAll
   renew-all T [] z f small = record { g = refl; cells = λ t _. inl (record { same = same-refl T t; not-parent = λ ns c i. List·Memᴰ·not-nil i }) }
   renew-all T (m ∷ l) z f small =

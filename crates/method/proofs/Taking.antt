@@ -1,13 +1,13 @@
 -- The least queued cell is one, and `nextCell` names it as long as the loop goes on.
 use mathlib.Core.Path.{_≡_, refl, sym, ap, _∙_}
-use mathlib.Core.Bool.{Bool, true, false, Bool-discrete, true≢false}
+use mathlib.Core.Bool.{true, Bool-discrete, true≢false}
 use mathlib.Core.Logic.{_⊎_, inl, inr, _≢_}
 use mathlib.Core.Option.{Option, none, some}
 use Prim.Native.Nat.{ℕ, zero, suc, _<_}
 use native.Mathlib.Omega.{arith}
 use native.Mathlib.Decide.{ℕ-discrete, decLt}
 use Rattle.method.specs.Graph.{Graph, GraphLaws, Hunt}
-use Rattle.method.specs.Tables.{Tables, gAt, rhsAt, queuedAt, storedKey, calculatedKey, choose}
+use Rattle.method.specs.Tables.{Tables, gAt, rhsAt, queuedAt, storedKey, calculatedKey}
 use Rattle.method.specs.Loop.{sooner, soonest, leastQueued, goesOn, nextCell}
 use Rattle.method.specs.Course.{Before, LeastCell, Continues}
 use Rattle.method.proofs.Choices.{choose-yes, choose-no, choose-is}
@@ -35,7 +35,7 @@ module _ {G : Graph} (L : GraphLaws G) (T : Tables) where
   not-both a b (inr x) (inl y) = omega (arith, x .0)
   not-both a b (inr x) (inr y) = true≢false (sym (L .onward a b a (x .1) (y .1)) ∙ L .not-itself a)
 
-  pub before-total : (a b : ℕ) → a ≢ b → Before G T a b ⊎ Before G T b a
+  before-total : (a b : ℕ) → a ≢ b → Before G T a b ⊎ Before G T b a
   before-total a b ne = at (decLt (storedKey T a) (storedKey T b)) (decLt (storedKey T b) (storedKey T a)) (L .one-first a b ne)
     where
       at : Dec (storedKey T a < storedKey T b) → Dec (storedKey T b < storedKey T a) → (G .earlier a b ≡ true) ⊎ (G .earlier b a ≡ true) → Before G T a b ⊎ Before G T b a
@@ -64,7 +64,7 @@ module _ {G : Graph} (L : GraphLaws G) (T : Tables) where
   pub least-is : (n : ℕ) → Named G T n (leastQueued G T n)
   unfolding leastQueued soonest
   least-is zero = λ s l. absurd (omega arith)
-  least-is (suc n) = choose-is (λ o. Named G T (suc n) o) (Bool-discrete (queuedAt T n) true) (λ q. add q (leastQueued G T n) (least-is n)) (λ nq. pass nq (leastQueued G T n) (least-is n))
+  least-is (suc n) = choose-is (λ o. Named G T (suc n) o) _ (λ q. add q (leastQueued G T n) (least-is n)) (λ nq. pass nq (leastQueued G T n) (least-is n))
     where
       below : (s : ℕ) → s < suc n → s ≢ n → s < n
       below s l ne = omega (arith, ne)
@@ -90,7 +90,7 @@ module _ {G : Graph} (L : GraphLaws G) (T : Tables) where
           at (inr x) = rw (sooner-other n b x) (record { u-in = omega (arith, F .u-in); queued = F .queued; first = λ s l k ne. other s l k ne (ℕ-discrete s n) x })
 
   -- two least queued cells are one
-  pub least-same : (n u w : ℕ) → LeastCell G T n u → LeastCell G T n w → u ≡ w
+  least-same : (n u w : ℕ) → LeastCell G T n u → LeastCell G T n w → u ≡ w
   least-same n u w F B = at (ℕ-discrete u w)
     where
       at : Dec (u ≡ w) → u ≡ w
@@ -124,7 +124,7 @@ module _ (H : Hunt) (L : GraphLaws (H .graph)) (T : Tables) where
   goes-on : (u : ℕ) → Continues H T u → goesOn H T (some u) ≡ some u
   unfolding goesOn
   goes-on u (inl x) = choose-yes (decLt (storedKey T u) (calculatedKey H T (H .target))) (some u) _ x
-  goes-on u (inr x) = choose-is (λ o. o ≡ some u) (decLt (storedKey T u) (calculatedKey H T (H .target))) (λ _. refl) (λ _. choose-yes (decLt (gAt T (H .target)) (rhsAt T (H .target))) (some u) none x)
+  goes-on u (inr x) = choose-is (λ o. o ≡ some u) _ (λ _. refl) (λ _. choose-yes (decLt (gAt T (H .target)) (rhsAt T (H .target))) (some u) none x)
 
   goes-not : (u : ℕ) → (Continues H T u → ⊥) → goesOn H T (some u) ≡ none
   unfolding goesOn

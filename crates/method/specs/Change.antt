@@ -1,6 +1,5 @@
 -- What a change of one move does to the graph.
 use mathlib.Core.Path.{_≡_}
-use mathlib.Core.Bool.{Bool}
 use mathlib.Core.Logic.{_⊎_}
 use Prim.Native.Nat.{ℕ, _<_}
 use Rattle.method.specs.Graph.{Graph, Comes}

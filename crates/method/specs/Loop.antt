@@ -2,7 +2,7 @@
 use mathlib.Core.Bool.{Bool, true, false, Bool-discrete}
 use mathlib.Core.Option.{Option, none, some}
 use mathlib.Core.List.{List, [], _∷_}
-use Prim.Native.Nat.{ℕ, zero, suc, _<_}
+use Prim.Native.Nat.{ℕ, zero, suc}
 use native.Mathlib.Decide.{decLt}
 use Rattle.method.specs.Graph.{Graph, Hunt}
 use Rattle.method.specs.Tables.{Tables, gAt, rhsAt, queuedAt, choose, storedKey, calculatedKey}

@@ -1,7 +1,7 @@
 -- The calls: open, place, change a move, search.
-use mathlib.Core.Bool.{Bool, true, false, Bool-discrete}
+use mathlib.Core.Bool.{true, false, Bool-discrete}
 use mathlib.Core.List.{List, [], _∷_}
-use Prim.Native.Nat.{ℕ, zero, suc, _+_, _-_, _*_, _<_}
+use Prim.Native.Nat.{ℕ, zero, suc, _+_, _-_, _*_}
 use native.Mathlib.Decide.{ℕ-discrete, decLt}
 use lib.ListN.{length, getD, set, replicate}
 use Rattle.method.specs.Numbers.{infinite, mostSearches}

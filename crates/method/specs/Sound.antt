@@ -1,6 +1,6 @@
 -- Sound tables: document 01's paragraph in its order, but for what speaks of the plan's bytes, the list, the places and the heap.
 use mathlib.Core.Path.{_≡_}
-use mathlib.Core.Bool.{Bool, true, false}
+use mathlib.Core.Bool.{true, false}
 use mathlib.Core.Logic.{_⊎_, _≢_}
 use Prim.Native.Nat.{ℕ, _*_, _≤_, _<_}
 use lib.ListN.{getD}

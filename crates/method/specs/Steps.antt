@@ -1,10 +1,9 @@
 -- One step on the least cell u: put back, lower or raise.
 use mathlib.Core.List.{List, [], _∷_}
-use Prim.Native.Nat.{ℕ, _+_, _<_}
+use Prim.Native.Nat.{ℕ, _+_}
 use native.Mathlib.Decide.{ℕ-discrete, decLt}
-use lib.ListN.{getD}
 use Rattle.method.specs.Numbers.{infinite}
-use Rattle.method.specs.Graph.{Move, Graph, Hunt}
+use Rattle.method.specs.Graph.{Move, Hunt}
 use Rattle.method.specs.Tables.{Tables, gAt, rhsAt, parentAt, withG, withRhs, choose, storedKey, calculatedKey, enter, leave, setRight, foundAnew}
 
 -- Lower, one open move from u to s, where v is the new g(u): "s not the hunter, with rhs(s) > g(u) + cost: new rhs, parent u, queue entry set right".

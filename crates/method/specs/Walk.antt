@@ -1,10 +1,9 @@
 -- Chains of open moves, what a right answer is, and what the steps of a search may be.
-use mathlib.Core.Path.{_≡_}
 use mathlib.Core.List.{List, [], _∷_, List·Memᴰ}
 use Prim.Native.Nat.{ℕ, _+_, _≤_}
 use lib.ListN.{length}
 use Rattle.method.specs.Graph.{Graph, Comes}
-use Rattle.method.specs.Session.{Answer, caught, none-leads, way, cut-off}
+use Rattle.method.specs.Session.{Answer, none-leads, way}
 
 -- `Chain G a l e d`: open moves lead from cell a to cell e over the cells of l, a first and e last, at cost d in all.
 pub data Chain (G : Graph) : ℕ → List ℕ → ℕ → ℕ → Type 0 where

@@ -1,5 +1,5 @@
 -- The plan's graph has the laws that the method asks.
-use mathlib.Core.Path.{_≡_, refl, sym, ap, _∙_}
+use mathlib.Core.Path.{_≡_, refl, sym, ap, subst, _∙_}
 use mathlib.Core.Bool.{Bool, true, false}
 use mathlib.Core.Logic.{_⊎_, inl, inr, _≢_}
 use mathlib.Core.List.{List, [], _∷_, _++_, List·Memᴰ, List·Memᴰ·head, List·Memᴰ·not-nil, List·Memᴰ·append-cases, List·Memᴰ·eq-of-singleton, Memᴰ·append-left, Memᴰ·append-right}
@@ -118,6 +118,17 @@ module _ (p : Plan) (wide : 1 ≤ p .width) where
       up-to-has (outBy p w) 4 (move k s c) d (opposes (o .direction) (o .small) .small)
       (rw e (one-has (stays (p .width) (p .height) w d) (isCost b) (move (opposite d + 1) v b) m (rw (o .costs) at (o .is-cost))))
 
+  -- the one open move of a direction
+  pub into-reach : (s v c d : ℕ) → d < 4 → move (d + 1) v c ∷ [] ≡ intoBy p s d → Open p s (d + 1) v c
+  into-reach s v c d l e = into-by-is s (d + 1) v c d l (subst (List·Memᴰ (move (d + 1) v c)) e (List·Memᴰ·head refl))
+
+  pub out-reach : (u v c d : ℕ) → d < 4 → move (opposite d + 1) v c ∷ [] ≡ outBy p u d → Open p v (opposite d + 1) u c
+  out-reach u v c d l e = out-by-is v (opposite d + 1) u c d l (subst (List·Memᴰ (move (opposite d + 1) v c)) e (List·Memᴰ·head refl))
+
+  -- an open move comes from a cell of the plan
+  pub open-from-in : {s k w c : ℕ} → Open p s k w c → w < cells p
+  open-from-in o = rw (o .from) (enters wide (o .stays-in) .inside)
+
   one-direction-named : (s k w c w′ c′ : ℕ) (o : Open p s k w c) (o′ : Open p s k w′ c′) → o .direction ≡ o′ .direction
   one-direction-named s k w c w′ c′ o o′ = omega (arith, o .named, o′ .named)
 
@@ -147,7 +158,7 @@ graph-laws p z = record {
   few = mul-le-mul (z .low) (z .narrow);
   goes-out = λ s k w c i. out-has p (z .wide) s k w c (into-is p (z .wide) s k w c i);
   comes-in = λ s k w c i. into-has p (z .wide) s k w c (out-is p (z .wide) s k w c i);
-  from-in = λ s k w c i. let o = into-is p (z .wide) s k w c i in rw (o .from) (enters (z .wide) (o .stays-in) .inside);
+  from-in = λ s k w c i. open-from-in p (z .wide) (into-is p (z .wide) s k w c i);
   to-in = λ s k w c i. into-is p (z .wide) s k w c i .stays-in .from-in;
   code-pos = λ s k w c i. omega (arith, into-is p (z .wide) s k w c i .named);
   one-from = λ s k w c w′ c′ i j. one-from p (z .wide) s k w c w′ c′ (into-is p (z .wide) s k w c i) (into-is p (z .wide) s k w′ c′ j);

@@ -1,0 +1,82 @@
+-- A cell's entry set right, way by way.
+use mathlib.Core.Path.{_≡_, refl, sym, ap, _∙_}
+use mathlib.Core.Bool.{Bool, true, false}
+use mathlib.Core.Logic.{_≢_}
+use mathlib.Core.List.{List}
+use Prim.Native.Nat.{ℕ, _+_, _≤_, _<_, min}
+use native.Mathlib.Omega.{arith}
+use native.Mathlib.Decide.{ℕ-discrete}
+use lib.ListN.{getD, length}
+use Rattle.method.specs.Numbers.{infinite, mostEstimate}
+use Rattle.method.specs.Tables as method
+use Rattle.method.proofs.Choices.{choose-yes, choose-no}
+use Rattle.method.proofs.Entries.{first-finite}
+use Rattle.queue.specs.Queue.{absent, members, Heap, Changed}
+use Rattle.queue.proofs.QueueLaws.{heap-as, absent-stays}
+use Rattle.plan.specs.Cells.{estimate}
+use Rattle.plan.specs.Reached.{At, Placed, between}
+use Rattle.plan.specs.declared.Spot.{Spot}
+use Rattle.plan.proofs.EstimateLaws.{estimate-le}
+use Rattle.plan.proofs.MoveLaws.{placed}
+use Rattle.tables.specs.Lent.{tables, core}
+use Rattle.tables.proofs.WalkLaws.{estimate-at}
+use Rattle.entries.specs.declared.Aim.{Aim}
+use Rattle.entries.specs.Aims.{area, hunt}
+use Rattle.entries.specs.Became.{Became, Entering, Entered}
+
+-- The target's spot.
+abbrev pub goalSpot : Aim → Spot
+goalSpot a = record { row = a .row; column = a .column }
+
+module _ {a : Aim} {count cell : ℕ} {at : Spot} {g rhs k1 k2 place list : List ℕ} (E : Entering a count cell at g rhs k1 k2 place list) where
+  pub cell-placed : Placed at
+  cell-placed = let q = placed (E .size) (E .stands) (E .inside) in record { row = q .0; column = q .1 }
+
+  pub goal-placed : (a .row < 64) × (a .column < 64)
+  goal-placed = placed (E .size) (E .target-at) (E .target-in)
+
+  estimate-is : between at (goalSpot a) ≡ estimate (a .width) cell (a .target)
+  estimate-is = estimate-at {b = goalSpot a} (E .stands) (E .target-at)
+
+  -- the key of a cell to be queued fits
+  pub key-room : {m : ℕ} → getD g cell 0 ≢ getD rhs cell 0 → m ≡ min (getD g cell 0) (getD rhs cell 0) → m + between at (goalSpot a) + a .km < infinite
+  key-room n e = omega (arith, E .fits n, e, estimate-is, estimate-le (E .size) cell (a .target) (E .inside) (E .target-in))
+
+  -- the heap, as the queue's calls take it
+  pub heap-here : Heap (a .width) (length list) count k1 k2 place list
+  heap-here = heap-as (E .heap) (sym (E .heap .tables .agree .lengthList)) refl
+
+  -- what a change of the queue makes of the tables
+  entered-by : {room r first second : ℕ} {q : Bool} {k1′ k2′ place′ list′ : List ℕ} → room ≡ area a
+      → Changed (a .width) room r cell first second q k1 k2 place k1′ k2′ place′ list′
+      → ((plan parent : List ℕ) → method.withEntry (core (tables plan g rhs parent k1 k2 place list)) cell first second q ≡ method.setRight (hunt a plan) (core (tables plan g rhs parent k1 k2 place list)) cell)
+      → Entered a cell g rhs k1 k2 place list r k1′ k2′ place′ list′
+  entered-by e C f plan parent = record { is = rw (C .key1, C .key2, C .membership) (f plan parent); heap = heap-as (C .heap) e refl }
+
+  -- g and rhs equal: the cell is to be absent
+  module _ (e : getD g cell 0 ≡ getD rhs cell 0) where
+    leaves : (plan parent : List ℕ) → method.withEntry (core (tables plan g rhs parent k1 k2 place list)) cell 0 0 false ≡ method.setRight (hunt a plan) (core (tables plan g rhs parent k1 k2 place list)) cell
+    unfolding method.setRight
+    leaves plan parent = sym (choose-yes (ℕ-discrete (getD g cell 0) (getD rhs cell 0)) _ _ e)
+
+    pub right-absent : getD place cell 0 ≡ absent → Entered a cell g rhs k1 k2 place list count k1 k2 place list
+    right-absent o = entered-by refl (absent-stays (E .heap) (E .inside) o) leaves
+
+    pub right-out : {r : ℕ} {k1′ k2′ place′ list′ : List ℕ} → Changed (a .width) (length list) r cell 0 0 false k1 k2 place k1′ k2′ place′ list′
+        → Entered a cell g rhs k1 k2 place list r k1′ k2′ place′ list′
+    right-out C = entered-by (E .heap .tables .agree .lengthList) C leaves
+
+  -- g and rhs differ: the cell is to be queued under its key
+  pub right-in : {r m first : ℕ} {k1′ k2′ place′ list′ : List ℕ} → getD g cell 0 ≢ getD rhs cell 0 → m ≡ min (getD g cell 0) (getD rhs cell 0)
+      → first ≡ m + between at (goalSpot a) + a .km → Changed (a .width) (length list) r cell first m true k1 k2 place k1′ k2′ place′ list′
+      → Entered a cell g rhs k1 k2 place list r k1′ k2′ place′ list′
+  unfolding method.setRight method.enter
+  right-in {r} {m} {first} n em ef C = entered-by (E .heap .tables .agree .lengthList) C enters
+    where
+      first-is : (plan : List ℕ) → method.firstKey (hunt a plan) cell (min (getD g cell 0) (getD rhs cell 0)) ≡ first
+      first-is plan =
+          first-finite (hunt a plan) cell (min (getD g cell 0) (getD rhs cell 0)) (omega (arith, E .fits n))
+          ∙ omega (arith, em, ef, estimate-is)
+
+      enters : (plan parent : List ℕ) → method.withEntry (core (tables plan g rhs parent k1 k2 place list)) cell first m true ≡ method.setRight (hunt a plan) (core (tables plan g rhs parent k1 k2 place list)) cell
+      enters plan parent = rw (← first-is plan, em) (sym (choose-no (ℕ-discrete (getD g cell 0) (getD rhs cell 0)) _ _ n))

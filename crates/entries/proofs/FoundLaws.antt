@@ -1,0 +1,114 @@
+-- Tables that a number was set in, and a cell found anew.
+use mathlib.Core.Path.{_≡_, refl, sym, ap, subst, _∙_}
+use mathlib.Core.Logic.{_⊎_, inl, inr, ⊎-elim, _≢_}
+use mathlib.Core.List.{List}
+use Prim.Native.Nat.{ℕ, _+_, _*_, _≤_, _<_, min}
+use native.Mathlib.Omega.{arith}
+use native.Mathlib.Decide.{ℕ-discrete, decLt}
+use lib.ListN.{getD, set, length, length-set}
+use lib.Seq.{getD-set-same, getD-set-other}
+use Rattle.method.specs.Numbers.{infinite, mostCost, mostEstimate}
+use Rattle.method.specs.Graph.{Graph, GraphLaws}
+use Rattle.method.specs.Tables as method
+use Rattle.method.proofs.LeastSums.{anew-least}
+use Rattle.plan.specs.Costs.{Plan, Obeys}
+use Rattle.plan.specs.Grid.{graphOf}
+use Rattle.plan.specs.Reached.{At}
+use Rattle.plan.specs.declared.Spot.{Spot}
+use Rattle.plan.proofs.GridLaws.{graph-laws}
+use Rattle.tables.specs.Lent.{Tables, tables, core}
+use Rattle.entries.specs.declared.Aim.{Aim}
+use Rattle.entries.specs.declared.Found.{Found}
+use Rattle.entries.specs.Aims.{area, floor, hunt, mostG, mostRhs, mostKm, Aimed, Held, Small}
+use Rattle.entries.specs.Became.{Became, Entering, Entered, foundOf}
+
+-- A number set in a table of small numbers.
+pub small-set : (l : List ℕ) (i x : ℕ) {bound : ℕ} → i < length l → (x ≡ infinite) ⊎ (x ≤ bound) → Small bound l → Small bound (set l i x)
+small-set l i x {bound} li h S k = at (ℕ-discrete k i)
+  where
+    at : Dec (k ≡ i) → (getD (set l i x) k 0 ≡ infinite) ⊎ (getD (set l i x) k 0 ≤ bound)
+    at (yes e) = rw (e, getD-set-same l i x 0 li) h
+    at (no n) = rw (getD-set-other l i k x 0 n) (S k)
+
+-- A smaller bound is a bound.
+pub small-more : (l : List ℕ) {bound more : ℕ} → bound ≤ more → Small bound l → Small more l
+small-more l {bound} {more} h S k = ⊎-elim (λ (e : getD l k 0 ≡ infinite). inl e) (λ (x : getD l k 0 ≤ bound). inr (omega arith)) (S k)
+
+-- A sum found anew is infinite or a g and a cost.
+pub anew-small : (p : Plan) → Obeys p → (g : List ℕ) → Small mostG g → (s : ℕ) → (method.anew (graphOf p) g s .sum ≡ infinite) ⊎ (method.anew (graphOf p) g s .sum ≤ mostRhs)
+anew-small p O g S s = at (anew-least (graphOf p) g s .reached)
+  where
+    L : GraphLaws (graphOf p)
+    L = graph-laws p (O .size)
+
+    r : ℕ
+    r = method.anew (graphOf p) g s .sum
+
+    k : ℕ
+    k = method.anew (graphOf p) g s .code
+
+    by : method.Via (graphOf p) (λ w. getD g w 0) s (method.anew (graphOf p) g s .sum) (method.anew (graphOf p) g s .code) → method.anew (graphOf p) g s .sum < infinite
+        → (method.anew (graphOf p) g s .sum ≡ infinite) ⊎ (method.anew (graphOf p) g s .sum ≤ mostRhs)
+    by v l =
+        let c = L .cost-le s (method.anew (graphOf p) g s .code) (v .from) (v .cost) (v .comes) in
+        ⊎-elim (λ (e : getD g (v .from) 0 ≡ infinite). absurd (omega (arith, v .sum))) (λ (h : getD g (v .from) 0 ≤ mostG). inr (omega (arith, v .sum, c))) (S (v .from))
+
+    at : ((method.anew (graphOf p) g s .sum ≡ infinite) × (method.anew (graphOf p) g s .code ≡ 0)) ⊎ ((method.anew (graphOf p) g s .sum < infinite) × method.Via (graphOf p) (λ w. getD g w 0) s (method.anew (graphOf p) g s .sum) (method.anew (graphOf p) g s .code))
+        → (method.anew (graphOf p) g s .sum ≡ infinite) ⊎ (method.anew (graphOf p) g s .sum ≤ mostRhs)
+    at (inl e) = inl (e .0)
+    at (inr x) = by (x .1) (x .0)
+
+-- The key of a cell with small numbers fits.
+pub key-fits : (a : Aim) (x y : ℕ) → (x ≡ infinite) ⊎ (x ≤ mostG) → (y ≡ infinite) ⊎ (y ≤ mostRhs) → a .km ≤ mostKm → x ≢ y → min x y + mostEstimate + a .km < infinite
+key-fits a x y (inl e) (inl f) l n = absurd (n (e ∙ sym f))
+key-fits a x y (inl e) (inr f) l n = omega arith
+key-fits a x y (inr e) (inl f) l n = omega arith
+key-fits a x y (inr e) (inr f) l n = omega arith
+
+-- The entry of a cell in tables with small numbers can be set right.
+pub entering : {a : Aim} {count cell : ℕ} {at : Spot} {plan g rhs parent k1 k2 place list : List ℕ} → Aimed a plan → Held a count (tables plan g rhs parent k1 k2 place list)
+    → Small mostG g → Small mostRhs rhs → cell < area a → At (a .width) cell at → Entering a count cell at g rhs k1 k2 place list
+entering {a} {cell = cell} A H G R l s = record {
+  size = A .obeys .size;
+  target-in = A .target-in;
+  target-at = A .target-at;
+  inside = l;
+  stands = s;
+  long-g = H .sized .g;
+  long-rhs = H .sized .rhs;
+  heap = H .heap;
+  fits = key-fits a _ _ (G cell) (R cell) (A .km-le);
+}
+
+-- The tables with one cell's rhs and parent set.
+pub held-rhs : {a : Aim} {count : ℕ} {plan g rhs parent k1 k2 place list : List ℕ} (cell r p : ℕ) → Held a count (tables plan g rhs parent k1 k2 place list)
+    → Held a count (tables plan g (set rhs cell r) (set parent cell p) k1 k2 place list)
+held-rhs {rhs = rhs} {parent = parent} cell r p H = record {
+  sized = record {
+    g = H .sized .g;
+    rhs = length-set rhs cell r ∙ H .sized .rhs;
+    parent = length-set parent cell p ∙ H .sized .parent;
+    k1 = H .sized .k1;
+    k2 = H .sized .k2;
+    queued = H .sized .queued;
+  };
+  heap = H .heap;
+}
+
+pub small-rhs : {a : Aim} {count : ℕ} {plan g rhs parent k1 k2 place list : List ℕ} (cell x : ℕ) → Held a count (tables plan g rhs parent k1 k2 place list)
+    → cell < area a → (x ≡ infinite) ⊎ (x ≤ mostRhs) → Small mostRhs rhs → Small mostRhs (set rhs cell x)
+small-rhs {rhs = rhs} cell x H l h S = small-set rhs cell x (omega (arith, H .sized .rhs)) h S
+
+-- A cell found anew: what `anew` answered was set, and the entry set right.
+pub became-anew : {a : Aim} (cell : ℕ) {count : ℕ} {f : Found} {plan : List ℕ} (g rhs parent k1 k2 place list : List ℕ) {k1′ k2′ place′ list′ : List ℕ}
+    → foundOf f ≡ method.anew (graphOf (floor a plan)) g cell
+    → Entered a cell g (set rhs cell (f .rhs)) k1 k2 place list count k1′ k2′ place′ list′
+    → Became a count (tables plan g (set rhs cell (f .rhs)) (set parent cell (f .parent)) k1′ k2′ place′ list′) (method.foundAnew (hunt a plan) (core (tables plan g rhs parent k1 k2 place list)) cell)
+unfolding method.foundAnew
+became-anew {a} cell {count} {f} {plan} g rhs parent k1 k2 place list e E =
+    let B = E plan (set parent cell (f .parent)) in
+    record { is = B .is ∙ ap (λ x. method.setRight (hunt a plan) (method.withRhs (core (tables plan g rhs parent k1 k2 place list)) cell (x .sum) (x .code)) cell) e; heap = B .heap }
+
+pub found-small : {a : Aim} {f : Found} {plan : List ℕ} (g : List ℕ) (cell : ℕ) → Aimed a plan → Small mostG g → foundOf f ≡ method.anew (graphOf (floor a plan)) g cell → (f .rhs ≡ infinite) ⊎ (f .rhs ≤ mostRhs)
+found-small {a} {f} {plan} g cell A S e =
+    subst (λ x. (x ≡ infinite) ⊎ (x ≤ mostRhs)) (sym (ap (λ x. x .sum) e)) (anew-small (floor a plan) (A .obeys) g S cell)

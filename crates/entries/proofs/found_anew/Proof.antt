@@ -1,0 +1,63 @@
+use Rattle.entries.proofs.FoundLaws.{small-rhs, entering, held-rhs, became-anew, found-small}
+use borrow.Author.Needs.{needs}
+use Rattle.entries.proofs.found_anew.Statement.{statement}
+use Rattle.entries.proofs.found_anew.Tie as tie
+
+anew-requires : tie.Need-anew-requires
+anew-requires c κs = search needs
+
+mul-rhs : tie.Need-mul-rhs
+mul-rhs c = search needs
+
+slice-write-rhs : tie.Need-slice-write-rhs
+slice-write-rhs c = search needs
+
+slice-write-parent : tie.Need-slice-write-parent
+slice-write-parent c = search needs
+
+set-right-requires : tie.Need-set-right-requires
+set-right-requires c κs =
+    let p = c .before .before .before .before .before .before .before .before .before .before .before .before .before .before .pre in
+    let f = found-small _ _ (p .0) (p .1 .1 .0 .0) (c .before .before .before .before .before .anew .ensures) in
+    entering (p .0) (held-rhs _ _ 0 (p .1 .0)) (p .1 .1 .0 .0) (small-rhs _ _ (p .1 .0) (p .1 .1 .1 .0) f (p .1 .1 .0 .1)) (p .1 .1 .1 .0) (p .1 .1 .1 .1)
+
+same-length : tie.Need-same-length
+same-length c = search needs
+
+same-length-2 : tie.Need-same-length-2
+same-length-2 c = search needs
+
+same-length-3 : tie.Need-same-length-3
+same-length-3 c = search needs
+
+same-length-4 : tie.Need-same-length-4
+same-length-4 c = search needs
+
+same-length-5 : tie.Need-same-length-5
+same-length-5 c = search needs
+
+same-length-6 : tie.Need-same-length-6
+same-length-6 c = search needs
+
+returns : tie.Need-returns
+returns c =
+    let p = c .before .before .before .before .before .before .before .before .before .before .before .before .before .before .before .before .before .before .before .before .before .before .before .pre in
+    let f = found-small _ _ (p .0) (p .1 .1 .0 .0) (c .before .before .before .before .before .before .before .before .before .before .before .before .before .before .anew .ensures) in
+    (became-anew _ _ _ _ _ _ _ (c .before .before .before .before .before .before .before .before .before .before .before .before .before .before .before .before .before .before .before .before .before .before .before .args .list .now) (c .before .before .before .before .before .before .before .before .before .before .before .before .before .before .anew .ensures) (c .before .before .before .before .before .before .before .before .set-right .ensures), small-rhs _ _ (p .1 .0) (p .1 .1 .1 .0) f (p .1 .1 .0 .1))
+
+pub found-anew-spec : {M : Type 1} → statement M
+found-anew-spec =
+    tie.close
+    (tie.spec
+    anew-requires
+    mul-rhs
+    slice-write-rhs
+    slice-write-parent
+    set-right-requires
+    same-length
+    same-length-2
+    same-length-3
+    same-length-4
+    same-length-5
+    same-length-6
+    returns)

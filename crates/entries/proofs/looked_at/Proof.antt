@@ -1,0 +1,69 @@
+use native.Mathlib.Omega.{arith}
+use Rattle.plan.proofs.MoveLaws.{area}
+use Rattle.entries.proofs.AnewLaws.{said-shut, said-to, looked-shut, looked-left, looked-taken, neighbour-in, finite-small}
+use borrow.Author.Needs.{needs}
+use Rattle.entries.proofs.looked_at.Statement.{statement}
+use Rattle.entries.proofs.looked_at.Tie as tie
+
+move-into-requires : tie.Need-move-into-requires
+move-into-requires c κs = search needs
+
+enum-known-reach : tie.Need-enum-known-reach
+enum-known-reach c = search needs
+
+enum-told : tie.Need-enum-told
+enum-told c = search needs
+
+returns : tie.Need-returns
+returns c = looked-shut _ _ (said-shut _ (c .enum-told .given .1) (c .before .before .move-into .ensures))
+
+mul-far : tie.Need-mul-far
+mul-far c =
+    let p = c .before .before .before .before .before .before .pre in
+    omega (arith, neighbour-in _ (p .0) _ _ (p .1 .1 .1) (said-to _ (c .before .reach .given .1) (c .before .before .before .move-into .ensures)), area (p .0 .size))
+
+shared-slice-read-far : tie.Need-shared-slice-read-far
+shared-slice-read-far c =
+    let p = c .before .before .before .before .before .before .before .pre in
+    omega (arith, neighbour-in _ (p .0) _ _ (p .1 .1 .1) (said-to _ (c .before .before .reach .given .1) (c .before .before .before .before .move-into .ensures)), p .1 .0 .0)
+
+returns-2 : tie.Need-returns-2
+returns-2 c = looked-left _ _ (said-to _ (c .before .before .before .reach .given .1) (c .before .before .before .before .before .move-into .ensures)) (omega arith)
+
+cast-sum : tie.Need-cast-sum
+cast-sum c = search needs
+
+add-sum : tie.Need-add-sum
+add-sum c =
+    let p = c .before .before .before .before .before .before .before .before .pre in
+    omega (arith, neighbour-in _ (p .0) _ _ (p .1 .1 .1) (said-to _ (c .before .before .before .reach .given .1) (c .before .before .before .before .before .move-into .ensures)), finite-small (c .before .before .before .before .before .before .before .before .args .g .now) (p .1 .0 .1) (c .before .before .before .reach .given .0 .0) (c .if1 .left))
+
+returns-3 : tie.Need-returns-3
+returns-3 c = looked-left _ _ (said-to _ (c .before .before .before .before .before .reach .given .1) (c .before .before .before .before .before .before .before .move-into .ensures)) (c .if2 .taken)
+
+add-t13 : tie.Need-add-t13
+add-t13 c = search needs
+
+cast-t17 : tie.Need-cast-t17
+cast-t17 c = search needs
+
+returns-4 : tie.Need-returns-4
+returns-4 c = looked-taken _ _ (said-to _ (c .before .before .before .before .before .reach .given .1) (c .before .before .before .before .before .before .before .move-into .ensures)) (c .if2 .left)
+
+pub looked-at-spec : {M : Type 1} → statement M
+looked-at-spec =
+    tie.close
+    (tie.spec
+    move-into-requires
+    enum-known-reach
+    enum-told
+    returns
+    mul-far
+    shared-slice-read-far
+    returns-2
+    cast-sum
+    add-sum
+    returns-3
+    add-t13
+    cast-t17
+    returns-4)

@@ -1,0 +1,53 @@
+-- What a search goes by, and what the inner functions rest on.
+use mathlib.Core.Path.{_≡_}
+use mathlib.Core.Logic.{_⊎_}
+use mathlib.Core.List.{List}
+use Prim.Native.Nat.{ℕ, _*_, _≤_, _<_}
+use lib.ListN.{getD, length}
+use Rattle.method.specs.Numbers.{infinite}
+use Rattle.method.specs.Graph.{Hunt}
+use Rattle.method.specs.Tables.{Sized}
+use Rattle.queue.specs.Queue.{Heap}
+use Rattle.plan.specs.Cells.{Stands}
+use Rattle.plan.specs.Costs.{Plan, planOf, Obeys}
+use Rattle.plan.specs.Grid.{graphOf}
+use Rattle.tables.specs.Lent.{Tables, core}
+use Rattle.entries.specs.declared.Aim.{Aim}
+
+-- The number of cells.
+abbrev pub area : Aim → ℕ
+area a = a .height * a .width
+
+abbrev pub floor : Aim → List ℕ → Plan
+floor a plan = planOf (a .width) (a .height) plan
+
+-- The method's hunt.
+abbrev pub hunt : Aim → List ℕ → Hunt
+hunt a plan = record { graph = graphOf (floor a plan); hunter = a .hunter; target = a .target; km = a .km }
+
+-- The greatest finite g, and the greatest finite rhs, that the inner functions add to without reaching infinite.
+abbrev pub mostG : ℕ
+mostG = 4100000000
+
+abbrev pub mostRhs : ℕ
+mostRhs = 4100000250
+
+abbrev pub mostKm : ℕ
+mostKm = 1000000
+
+-- What stays while a search runs: an obedient plan, hunter and target inside it, the target's row and column, a small km.
+pub record Aimed (a : Aim) (plan : List ℕ) : Type 0 where
+  pub obeys : Obeys (floor a plan)
+  pub hunter-in : a .hunter < area a
+  pub target-in : a .target < area a
+  pub target-at : Stands (a .width) (a .target) (a .row) (a .column)
+  pub km-le : a .km ≤ mostKm
+
+-- The tables have their lengths and hold a true heap of `count` cells.
+pub record Held (a : Aim) (count : ℕ) (t : Tables) : Type 0 where
+  pub sized : Sized (area a) (core t)
+  pub heap : Heap (a .width) (area a) count (t .k1) (t .k2) (t .place) (t .list)
+
+-- Every number of a table is infinite or at most `bound`.
+abbrev pub Small : ℕ → List ℕ → Type 0
+Small bound l = (k : ℕ) → (getD l k 0 ≡ infinite) ⊎ (getD l k 0 ≤ bound)

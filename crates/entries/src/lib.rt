@@ -1,0 +1,171 @@
+// A cell's queue entry set right, its rhs and parent found anew, and the tables as at a fresh start.
+use plan;
+use plan::Reach;
+use plan::Spot;
+use queue;
+ghost use mathlib.Core.Path.{_≡_};
+ghost use Prim.Native.Nat.{ℕ, _+_, _*_, _<_, _≤_, min};
+ghost use lib.ListN.{length, replicate};
+ghost use Rattle.method.specs.Numbers.{infinite};
+ghost use Rattle.method.specs.Tables.{leastOver, anew as anewOf, foundAnew};
+ghost use Rattle.plan.specs.Costs.{Obeys, planOf};
+ghost use Rattle.plan.specs.Grid.{intoBy, graphOf};
+ghost use Rattle.plan.specs.Reached.{At, Placed, between};
+ghost use Rattle.tables.specs.Lent.{core, given, before, after};
+ghost use Rattle.entries.specs.Aims.{area, hunt, Aimed, Held, Small, mostG, mostRhs};
+ghost use Rattle.entries.specs.Became.{Became, Entering, Entered, foundOf};
+
+// What a search goes by: the plan's size, the hunter and the target taken over, the target's row and column, and km.
+pub struct Aim {
+    pub width: usize,
+    pub height: usize,
+    pub hunter: usize,
+    pub target: usize,
+    pub row: usize,
+    pub column: usize,
+    pub km: u32,
+}
+
+// The infinite number.
+pub const INFINITE: u32 = 4294967295;
+
+// The lesser of g and rhs, as a key has it.
+pub fn lesser(g: u32, rhs: u32) -> u32
+    ensures { λ r. ⌜ r ≡ min g rhs ⌝ }
+{
+    if g < rhs {
+        return g;
+    }
+    rhs
+}
+
+// The first key number of a cell at a spot whose lesser number is m.
+pub fn first_key(a: Aim, m: u32, at: Spot) -> u32
+    requires { ⌜ (Placed at) × (a .row < 64) × (a .column < 64) ⌝ }
+    requires { ⌜ m + between at (record { row = a .row; column = a .column }) + a .km < infinite ⌝ }
+    ensures { λ r. ⌜ r ≡ m + between at (record { row = a .row; column = a .column }) + a .km ⌝ }
+{
+    let aim = Spot {
+        row: a.row,
+        column: a.column,
+    };
+    m + plan::estimate(at, aim) as u32 + a.km
+}
+
+// The entry of a cell set right: queued under the calculated key if g and rhs differ, else absent. Returns the queue's count.
+pub fn set_right(
+    a: Aim,
+    g: &[u32],
+    rhs: &[u32],
+    k1: &mut [u32],
+    k2: &mut [u32],
+    place: &mut [u16],
+    list: &mut [u16],
+    count: usize,
+    cell: usize,
+    at: Spot,
+) -> usize
+    requires { ⌜ Entering a count cell at (now g) (now rhs) (now k1) (now k2) (now place) (now list) ⌝ }
+    ensures { λ r. ⌜ Entered a cell (now (g .entry)) (now (rhs .entry)) (now (k1 .entry)) (now (k2 .entry)) (now (place .entry)) (now (list .entry)) r (now (k1 .exit)) (now (k2 .exit)) (now (place .exit)) (now (list .exit)) ⌝ }
+{
+    let x = g[cell];
+    let y = rhs[cell];
+    let i = place[cell];
+    if x == y {
+        if i == queue::ABSENT {
+            return count;
+        }
+        return queue::take_out(a.width, k1, k2, place, list, count, cell);
+    }
+    let m = lesser(x, y);
+    let first = first_key(a, m, at);
+    if i == queue::ABSENT {
+        return queue::put_in(a.width, k1, k2, place, list, count, cell, first, m);
+    }
+    queue::put_under(a.width, k1, k2, place, list, count, cell, first, m);
+    count
+}
+
+// A least sum so far, and the parent byte of the move that gives it.
+pub struct Found {
+    pub rhs: u32,
+    pub parent: u8,
+}
+
+// One more neighbour is looked at: its move is taken if it gives a smaller sum.
+fn looked_at(
+    width: usize,
+    height: usize,
+    plan: &[u8],
+    g: &[u32],
+    s: usize,
+    best: Found,
+    d: usize,
+) -> Found
+    requires { ⌜ Obeys (planOf width height (now plan)) ⌝ }
+    requires { ⌜ (length (now g) ≡ height * width) × Small mostG (now g) ⌝ }
+    requires { ⌜ (s < height * width) × (d < 4) ⌝ }
+    ensures { λ r. ⌜ foundOf r ≡ leastOver (now (g .entry)) (foundOf best) (intoBy (planOf width height (now (plan .entry))) s d) ⌝ }
+{
+    let reach = plan::move_into(width, height, plan, s, d);
+    let Reach::To(u, cost) = reach else {
+        return best;
+    };
+    let far = g[u];
+    if far == INFINITE {
+        return best;
+    }
+    let sum = far + cost as u32;
+    if best.rhs <= sum {
+        return best;
+    }
+    Found {
+        rhs: sum,
+        parent: (d + 1) as u8,
+    }
+}
+
+// The first least sum over the neighbours in direction order, with its parent byte.
+pub fn anew(width: usize, height: usize, plan: &[u8], g: &[u32], s: usize) -> Found
+    requires { ⌜ Obeys (planOf width height (now plan)) ⌝ }
+    requires { ⌜ (length (now g) ≡ height * width) × Small mostG (now g) ⌝ }
+    requires { ⌜ s < height * width ⌝ }
+    ensures { λ r. ⌜ foundOf r ≡ anewOf (graphOf (planOf width height (now (plan .entry)))) (now (g .entry)) s ⌝ }
+{
+    let mut best = Found {
+        rhs: INFINITE,
+        parent: 0,
+    };
+    for d in 0..4 {
+        best = looked_at(width, height, plan, g, s, best, d);
+    }
+    best
+}
+
+// A cell's rhs, parent and entry found anew. Returns the queue's count.
+pub fn found_anew(
+    a: Aim,
+    plan: &[u8],
+    g: &[u32],
+    rhs: &mut [u32],
+    parent: &mut [u8],
+    k1: &mut [u32],
+    k2: &mut [u32],
+    place: &mut [u16],
+    list: &mut [u16],
+    count: usize,
+    cell: usize,
+    at: Spot,
+) -> usize
+    requires { ⌜ Aimed a (now plan) ⌝ }
+    requires { ⌜ Held a count (given plan g rhs parent k1 k2 place list) ⌝ }
+    requires { ⌜ Small mostG (now g) × Small mostRhs (now rhs) ⌝ }
+    requires { ⌜ (cell < area a) × At (a .width) cell at ⌝ }
+    ensures { λ r. ⌜ Became a r (after plan g rhs parent k1 k2 place list) (foundAnew (hunt a (now (plan .entry))) (core (before plan g rhs parent k1 k2 place list)) cell) ⌝ }
+    ensures { λ _. ⌜ Small mostRhs (now (rhs .exit)) ⌝ }
+{
+    let f = anew(a.width, a.height, plan, g, cell);
+    rhs[cell] = f.rhs;
+    parent[cell] = f.parent;
+    set_right(a, g, rhs, k1, k2, place, list, count, cell, at)
+}
