@@ -13,7 +13,7 @@ use Rattle.method.proofs.Choices.{choose-yes, choose-no}
 use Rattle.method.proofs.Entries.{first-finite}
 use Rattle.queue.specs.Queue.{absent, members, Heap, Changed}
 use Rattle.queue.proofs.QueueLaws.{heap-as, absent-stays}
-use Rattle.plan.specs.Cells.{estimate}
+use Rattle.plan.specs.Cells.{Stands, estimate}
 use Rattle.plan.specs.Reached.{At, Placed, between}
 use Rattle.plan.specs.declared.Spot.{Spot}
 use Rattle.plan.proofs.EstimateLaws.{estimate-le}
@@ -27,6 +27,11 @@ use Rattle.entries.specs.Became.{Became, Entering, Entered}
 -- The target's spot.
 abbrev pub goalSpot : Aim → Spot
 goalSpot a = record { row = a .row; column = a .column }
+
+-- The first key number as the code adds it up.
+pub first-key-is : (a : Aim) {cell : ℕ} {at : Spot} {m first : ℕ} → At (a .width) cell at → Stands (a .width) (a .target) (a .row) (a .column) → m < infinite
+    → first ≡ m + between at (goalSpot a) + a .km → (plan : List ℕ) → method.firstKey (hunt a plan) cell m ≡ first
+first-key-is a {cell} {at} {m} s t l e plan = first-finite (hunt a plan) cell m l ∙ omega (arith, e, estimate-at {b = goalSpot a} s t)
 
 module _ {a : Aim} {count cell : ℕ} {at : Spot} {g rhs k1 k2 place list : List ℕ} (E : Entering a count cell at g rhs k1 k2 place list) where
   pub cell-placed : Placed at
@@ -74,9 +79,7 @@ module _ {a : Aim} {count cell : ℕ} {at : Spot} {g rhs k1 k2 place list : List
   right-in {r} {m} {first} n em ef C = entered-by (E .heap .tables .agree .lengthList) C enters
     where
       first-is : (plan : List ℕ) → method.firstKey (hunt a plan) cell (min (getD g cell 0) (getD rhs cell 0)) ≡ first
-      first-is plan =
-          first-finite (hunt a plan) cell (min (getD g cell 0) (getD rhs cell 0)) (omega (arith, E .fits n))
-          ∙ omega (arith, em, ef, estimate-is)
+      first-is = first-key-is a (E .stands) (E .target-at) (omega (arith, E .fits n)) (omega (arith, em, ef))
 
       enters : (plan parent : List ℕ) → method.withEntry (core (tables plan g rhs parent k1 k2 place list)) cell first m true ≡ method.setRight (hunt a plan) (core (tables plan g rhs parent k1 k2 place list)) cell
       enters plan parent = rw (← first-is plan, em) (sym (choose-no (ℕ-discrete (getD g cell 0) (getD rhs cell 0)) _ _ n))

@@ -1,0 +1,5 @@
+pub mod AskLaws
+pub mod KeyLaws
+pub mod StepLaws
+pub mod ChoiceLaws
+pub mod LoopLaws

@@ -1,0 +1,181 @@
+-- The steps over the tables are the method's.
+use mathlib.Core.Path.{_≡_, refl, sym, ap, subst, _∙_}
+use mathlib.Core.Bool.{Bool, true, false}
+use mathlib.Core.Logic.{_⊎_, inl, inr, ⊎-elim, _≢_}
+use mathlib.Core.List.{List, _++_}
+use Prim.Native.Nat.{ℕ, _+_, _≤_, _<_, min}
+use native.Mathlib.Numerals.{add-one}
+use native.Mathlib.Omega.{arith}
+use native.Mathlib.Decide.{ℕ-discrete, decLt}
+use lib.Dec.{ltb}
+use lib.ListN.{getD, set, length, length-set}
+use lib.Seq.{getD-set-same}
+use borrow.Author.Tests.{ltb-true, ltb-false}
+use Rattle.method.specs.Numbers.{infinite, mostCost}
+use Rattle.method.specs.Graph.{Move, Hunt}
+use Rattle.method.specs.Tables as method
+use Rattle.method.specs.Steps.{relaxedAll, lowered, renewedAll, raised, stepped}
+use Rattle.method.proofs.Choices.{choose-yes, choose-no}
+use Rattle.method.proofs.Appending.{relaxedAll-append, renewedAll-append}
+use Rattle.method.proofs.Stepping.{relaxedAll-sized, renewedAll-sized}
+use Rattle.plan.specs.Directions.{rowStep, columnStep}
+use Rattle.plan.specs.Cells.{entered}
+use Rattle.plan.specs.Grid.{outBy, upTo}
+use Rattle.plan.specs.Reached.{At, Placed}
+use Rattle.plan.specs.declared.Spot.{Spot}
+use Rattle.plan.proofs.CellLaws.{stands-row, stands-column}
+use Rattle.plan.proofs.MoveLaws.{placed, moved-at}
+use Rattle.tables.specs.Lent.{Tables, tables, core}
+use Rattle.entries.specs.declared.Aim.{Aim}
+use Rattle.entries.specs.Aims.{area, floor, hunt, mostG, mostRhs, Aimed, Held, Small}
+use Rattle.entries.specs.Became.{Became, Entering, Entered}
+use Rattle.entries.proofs.FoundLaws.{small-set, small-more, key-fits, entering}
+use Rattle.steps.specs.declared.Relaxing.{Relaxing}
+use Rattle.steps.specs.declared.Relaxing.the-variants.{Nothing, To}
+use Rattle.steps.specs.declared.Child.{Child}
+use Rattle.steps.specs.declared.Child.the-variants.{Not, Is}
+use Rattle.steps.specs.Moves.{Enters, RelaxesTo, Relaxes, RenewsAt, Renews, Keyed}
+
+-- ---- what holds of the tables after an inner function
+
+pub became-as : {a : Aim} {count : ℕ} {t : Tables} {m m′ : method.Tables} → Became a count t m → m ≡ m′ → Became a count t m′
+became-as B e = record { is = B .is ∙ e; heap = B .heap }
+
+pub became-same : {a : Aim} {count : ℕ} {t : Tables} {m : method.Tables} → Held a count t → m ≡ core t → Became a count t m
+became-same H e = record { is = sym e; heap = H .heap }
+
+pub became-held : {a : Aim} {count : ℕ} {t : Tables} {m : method.Tables} → method.Sized (area a) m → Became a count t m → Held a count t
+became-held {a} z B = record { sized = subst (method.Sized (area a)) (sym (B .is)) z; heap = B .heap }
+
+-- g of one cell set
+pub held-g : {a : Aim} {count : ℕ} {plan g rhs parent k1 k2 place list : List ℕ} (u v : ℕ) → Held a count (tables plan g rhs parent k1 k2 place list) → Held a count (tables plan (set g u v) rhs parent k1 k2 place list)
+held-g {g = g} u v H = record {
+  sized = record { g = length-set g u v ∙ H .sized .g; rhs = H .sized .rhs; parent = H .sized .parent; k1 = H .sized .k1; k2 = H .sized .k2; queued = H .sized .queued };
+  heap = H .heap;
+}
+
+-- ---- the cell entered
+
+-- the spot moved to can be computed, and is the cell's
+module _ {a : Aim} {plan : List ℕ} (A : Aimed a plan) {u d s : ℕ} (E : Enters a u d s) {at : Spot} (w : At (a .width) u at) where
+  pub move-asks : d < 4 → ((d < 4) × Placed at) × ((1 ≤ at .row + rowStep d) × (1 ≤ at .column + columnStep d))
+  move-asks l =
+      let q = placed (A .obeys .size) w (E .stays-in .from-in) in
+      ((l, record { row = q .0; column = q .1 }), (omega (arith, E .stays-in .north, stands-row w), omega (arith, E .stays-in .west, stands-column w)))
+
+  pub entered-at : {to : Spot} → (to .row + 1 ≡ at .row + rowStep d) × (to .column + 1 ≡ at .column + columnStep d) → At (a .width) s to
+  entered-at {to} e = subst (λ x. At (a .width) x to) (sym (E .cell)) (moved-at {to = to} (A .obeys .size .wide) w (E .stays-in) e)
+
+pub asked-nothing : (a : Aim) (plan rhs : List ℕ) (v u d : ℕ) {r : Relaxing} → r ≡ Nothing → Relaxes a plan rhs v u d r → (T : method.Tables) → T .rhs ≡ rhs → relaxedAll (hunt a plan) v T (outBy (floor a plan) u d) ≡ T
+asked-nothing a plan rhs v u d e R = subst (Relaxes a plan rhs v u d) e R
+
+pub asked-to : (a : Aim) (plan rhs : List ℕ) (v u d : ℕ) {s sum : ℕ} {r : Relaxing} → r ≡ To s sum → Relaxes a plan rhs v u d r → RelaxesTo a plan rhs v u d s sum
+asked-to a plan rhs v u d e R = subst (Relaxes a plan rhs v u d) e R
+
+pub asked-not : (a : Aim) (plan parent : List ℕ) (u d : ℕ) {r : Child} → r ≡ Not → Renews a plan parent u d r → (T : method.Tables) → T .parent ≡ parent → renewedAll (hunt a plan) T (outBy (floor a plan) u d) ≡ T
+asked-not a plan parent u d e R = subst (Renews a plan parent u d) e R
+
+pub asked-is : (a : Aim) (plan parent : List ℕ) (u d : ℕ) {s : ℕ} {r : Child} → r ≡ Is s → Renews a plan parent u d r → RenewsAt a plan parent u d s
+asked-is a plan parent u d e R = subst (Renews a plan parent u d) e R
+
+-- a sum of a small number and a cost
+pub sum-small : {v sum : ℕ} → sum ≤ v + mostCost → v ≤ mostG → (sum ≡ infinite) ⊎ (sum ≤ mostRhs)
+sum-small h l = inr (omega arith)
+
+-- ---- the directions of a step, one after the other
+
+pub relaxed-more : (H : Hunt) (v : ℕ) (T : method.Tables) (m : ℕ → List Move) (d : ℕ) {U E : method.Tables} → U ≡ relaxedAll H v T (upTo m d) → E ≡ relaxedAll H v U (m d) → E ≡ relaxedAll H v T (upTo m (d + 1))
+unfolding upTo
+relaxed-more H v T m d e q = q ∙ rw (e, add-one, relaxedAll-append) refl
+
+pub renewed-more : (H : Hunt) (T : method.Tables) (m : ℕ → List Move) (d : ℕ) {U E : method.Tables} → U ≡ renewedAll H T (upTo m d) → E ≡ renewedAll H U (m d) → E ≡ renewedAll H T (upTo m (d + 1))
+unfolding upTo
+renewed-more H T m d e q = q ∙ rw (e, add-one, renewedAll-append) refl
+
+pub relaxed-first : (H : Hunt) (v : ℕ) (T : method.Tables) (m : ℕ → List Move) → T ≡ relaxedAll H v T (upTo m 0)
+unfolding upTo relaxedAll
+relaxed-first H v T m = refl
+
+pub renewed-first : (H : Hunt) (T : method.Tables) (m : ℕ → List Move) → T ≡ renewedAll H T (upTo m 0)
+unfolding upTo renewedAll
+renewed-first H T m = refl
+
+-- ---- lower
+
+-- rhs below g: it is finite
+pub lower-finite : {a : Aim} {count : ℕ} {plan g rhs parent k1 k2 place list : List ℕ} (u : ℕ) → Held a count (tables plan g rhs parent k1 k2 place list)
+    → Small mostG g → Small mostG rhs → getD rhs u 0 < getD g u 0 → getD rhs u 0 ≤ mostG
+lower-finite {g = g} {rhs = rhs} u H G R l =
+    ⊎-elim
+    (λ (e : getD rhs u 0 ≡ infinite). absurd (⊎-elim (λ (f : getD g u 0 ≡ infinite). omega arith) (λ (f : getD g u 0 ≤ mostG). omega arith) (G u)))
+    (λ (h : getD rhs u 0 ≤ mostG). h)
+    (R u)
+
+-- what is small for a g is small for a rhs
+pub rhs-small : {a : Aim} {count : ℕ} {plan g rhs parent k1 k2 place list : List ℕ} → Held a count (tables plan g rhs parent k1 k2 place list) → Small mostG rhs → Small mostRhs rhs
+rhs-small {rhs = rhs} H R = small-more rhs (omega arith) R
+
+module _ (a : Aim) (u : ℕ) (plan g rhs parent k1 k2 place list : List ℕ) where
+  -- u's g is its rhs, so it leaves the queue
+  left-queue : u < length g → method.setRight (hunt a plan) (core (tables plan (set g u (getD rhs u 0)) rhs parent k1 k2 place list)) u
+      ≡ method.leave (method.withG (core (tables plan g rhs parent k1 k2 place list)) u (getD rhs u 0)) u
+  unfolding method.setRight
+  left-queue l = choose-yes (ℕ-discrete (getD (set g u (getD rhs u 0)) u 0) (getD rhs u 0)) _ _ (getD-set-same g u (getD rhs u 0) 0 l)
+
+  pub lower-is : {count d : ℕ} {T : method.Tables} {t : Tables} → u < length g → d ≡ 4
+      → T ≡ method.setRight (hunt a plan) (core (tables plan (set g u (getD rhs u 0)) rhs parent k1 k2 place list)) u
+      → core t ≡ relaxedAll (hunt a plan) (getD rhs u 0) T (upTo (outBy (floor a plan) u) d)
+      → Held a count t → Became a count t (lowered (hunt a plan) (core (tables plan g rhs parent k1 k2 place list)) u)
+  unfolding lowered
+  lower-is {d = d} l four e q H = record { is = q ∙ rw (four, e, left-queue l) refl; heap = H .heap }
+
+-- ---- raise
+
+pub raise-is : (a : Aim) (u : ℕ) {count d : ℕ} (plan g rhs parent k1 k2 place list : List ℕ) {U : method.Tables} {t : Tables} → d ≡ 4
+    → U ≡ renewedAll (hunt a plan) (core (tables plan (set g u infinite) rhs parent k1 k2 place list)) (upTo (outBy (floor a plan) u) d)
+    → Became a count t (method.setRight (hunt a plan) U u) → Became a count t (raised (hunt a plan) (core (tables plan g rhs parent k1 k2 place list)) u)
+unfolding raised
+raise-is a u plan g rhs parent k1 k2 place list four e B = became-as B (rw (e, four) refl)
+
+-- ---- one step
+
+module _ (H : Hunt) (T : method.Tables) (u : ℕ) where
+  -- the entry of a queued cell set right is the cell put back
+  pub put-back-is : {r : Bool} → r ≡ ltb (method.storedKey T u) (method.calculatedKey H T u) → r ≡ true → method.gAt T u ≢ method.rhsAt T u → method.setRight H T u ≡ stepped H T u
+  unfolding stepped method.setRight
+  put-back-is e t n =
+      choose-no (ℕ-discrete (method.gAt T u) (method.rhsAt T u)) _ _ n
+      ∙ sym (choose-yes (decLt (method.storedKey T u) (method.calculatedKey H T u)) _ _ (ltb-true _ _ (sym e ∙ t)))
+
+  pub lowered-is : {r : Bool} → r ≡ ltb (method.storedKey T u) (method.calculatedKey H T u) → r ≡ false → method.rhsAt T u < method.gAt T u → lowered H T u ≡ stepped H T u
+  unfolding stepped
+  lowered-is e f l =
+      sym (choose-no (decLt (method.storedKey T u) (method.calculatedKey H T u)) _ _ (λ x. omega (arith, x, ltb-false (method.storedKey T u) (method.calculatedKey H T u) (sym e ∙ f)))
+      ∙ choose-yes (decLt (method.rhsAt T u) (method.gAt T u)) _ _ l)
+
+  pub raised-is : {r : Bool} → r ≡ ltb (method.storedKey T u) (method.calculatedKey H T u) → r ≡ false → method.gAt T u ≤ method.rhsAt T u → raised H T u ≡ stepped H T u
+  unfolding stepped
+  raised-is e f l =
+      sym (choose-no (decLt (method.storedKey T u) (method.calculatedKey H T u)) _ _ (λ x. omega (arith, x, ltb-false (method.storedKey T u) (method.calculatedKey H T u) (sym e ∙ f)))
+      ∙ choose-no (decLt (method.rhsAt T u) (method.gAt T u)) _ _ (λ x. omega arith))
+
+-- the keys of a queued cell can be compared
+pub keyed : {a : Aim} {count u : ℕ} {at : Spot} {plan g rhs parent k1 k2 place list : List ℕ} → Aimed a plan → Held a count (tables plan g rhs parent k1 k2 place list)
+    → Small mostG g → Small mostG rhs → u < area a → At (a .width) u at → getD g u 0 ≢ getD rhs u 0 → Keyed a u at g rhs k1 k2
+keyed {a} {u = u} {rhs = rhs} A H G R l s n = record {
+  size = A .obeys .size;
+  target-in = A .target-in;
+  target-at = A .target-at;
+  inside = l;
+  stands = s;
+  in-g = H .sized .g;
+  in-rhs = H .sized .rhs;
+  in-k1 = H .sized .k1;
+  in-k2 = H .sized .k2;
+  fits = key-fits a _ _ (G u) (small-more rhs (omega arith) R u) (A .km-le) n;
+}
+
+-- g of one cell set to a small number
+pub small-g : {a : Aim} {count : ℕ} {plan g rhs parent k1 k2 place list : List ℕ} (u x : ℕ) → Held a count (tables plan g rhs parent k1 k2 place list)
+    → u < area a → (x ≡ infinite) ⊎ (x ≤ mostG) → Small mostG g → Small mostG (set g u x)
+small-g {g = g} u x H l h S = small-set g u x (omega (arith, H .sized .g)) h S

@@ -1,0 +1,110 @@
+-- After d directions the tables are the method's with the children of those directions found anew.
+use borrow.Author.Needs.{needs}
+use mathlib.Core.Path.{_≡_, refl, sym, _∙_}
+use mathlib.Core.Logic.{inl}
+use Prim.Native.Nat.{_≤_, _-_}
+use native.Mathlib.Omega.{arith}
+use Rattle.method.specs.Steps.{renewedAll}
+use Rattle.method.proofs.Stepping.{renewedAll-sized}
+use Rattle.plan.specs.Grid.{outBy, upTo}
+use Rattle.plan.proofs.MoveLaws.{area}
+use Rattle.tables.specs.Lent.{tables, core}
+use Rattle.entries.specs.Aims.{floor, hunt, mostRhs, Held, Small}
+use Rattle.entries.proofs.FoundLaws.{entering}
+use Rattle.steps.proofs.StepLaws.{became-held, held-g, rhs-small, small-g, renewed-first, renewed-more, raise-is}
+use Rattle.steps.proofs.raise.Statement.{statement}
+use Rattle.steps.proofs.raise.Tie as tie
+
+abbrev Inv-loop : tie.InvT-loop
+Inv-loop a plan g rhs₀ parent₀ k1₀ k2₀ place₀ list₀ count u at n₀ d₀ rhs parent k1 k2 place list n d =
+    (d ≤ 4)
+    × (core (tables plan g rhs parent k1 k2 place list) ≡ renewedAll (hunt a plan) (core (tables plan g rhs₀ parent₀ k1₀ k2₀ place₀ list₀)) (upTo (outBy (floor a plan) u) d))
+    × Held a n (tables plan g rhs parent k1 k2 place list)
+    × Small mostRhs rhs
+
+abbrev μ-loop : tie.MeasureT-loop
+μ-loop a plan g rhs₀ parent₀ k1₀ k2₀ place₀ list₀ count u at n₀ d₀ rhs parent k1 k2 place list n d = 4 - d
+
+mul-g : tie.Need-mul-g Inv-loop μ-loop
+mul-g c = let p = c .before .before .before .before .before .before .before .before .pre in omega (arith, p .1 .1 .1 .0, area (p .0 .obeys .size))
+
+slice-write-g : tie.Need-slice-write-g Inv-loop μ-loop
+slice-write-g c = let p = c .before .before .before .before .before .before .before .before .pre in omega (arith, p .1 .1 .1 .0, p .1 .0 .sized .g)
+
+loop-holds : tie.Need-loop-holds Inv-loop μ-loop
+loop-holds c =
+    let p = c .before .before .before .before .before .before .before .before .pre in
+    (omega arith, renewed-first _ _ _, held-g _ _ (p .1 .0), rhs-small (p .1 .0) (p .1 .1 .0 .1))
+
+renew-requires : tie.Need-renew-requires Inv-loop μ-loop
+renew-requires c κs =
+    let p = c .before .before .before .before .before .before .before .before .before .before .before .before .before .before .before .before .before .pre in
+    let i = c .before .before .before .before .before .before .before .before .loop .inv in
+    (p .0, (i .2, ((small-g _ _ (p .1 .0) (p .1 .1 .1 .0) (inl refl) (p .1 .1 .0 .0), i .3), (p .1 .1 .1 .0, p .1 .1 .1 .1, c .before .before .before .before .before .before .before .loop-test .taken))))
+
+add-d : tie.Need-add-d Inv-loop μ-loop
+add-d c = omega (arith, c .before .before .before .before .before .before .before .before .before .before .before .before .before .before .before .before .before .before .before .before .loop-test .taken)
+
+loop-less : tie.Need-loop-less Inv-loop μ-loop
+loop-less c = omega (arith, c .before .before .before .before .before .before .before .before .before .before .before .before .before .before .before .before .before .before .before .before .loop-test .taken)
+
+loop-again : tie.Need-loop-again Inv-loop μ-loop
+loop-again c =
+    let i = c .before .before .before .before .before .before .before .before .before .before .before .before .before .before .before .before .before .before .before .before .before .loop .inv in
+    let e = c .before .before .before .before .before .before .before .before .before .before .before .before .renew .ensures in
+    (omega (arith, c .before .before .before .before .before .before .before .before .before .before .before .before .before .before .before .before .before .before .before .before .loop-test .taken), renewed-more _ _ _ _ (i .1) (e .0 .is), became-held (renewedAll-sized (i .2 .sized) _ _) (e .0), e .1)
+
+set-right-requires : tie.Need-set-right-requires Inv-loop μ-loop
+set-right-requires c κs =
+    let p = c .before .before .before .before .before .before .before .before .before .before .before .before .before .before .before .before .pre in
+    let i = c .before .before .before .before .before .before .before .loop .inv in
+    entering (p .0) (i .2) (small-g _ _ (p .1 .0) (p .1 .1 .1 .0) (inl refl) (p .1 .1 .0 .0)) (i .3) (p .1 .1 .1 .0) (p .1 .1 .1 .1)
+
+same-length : tie.Need-same-length Inv-loop μ-loop
+same-length c = search needs
+
+same-length-2 : tie.Need-same-length-2 Inv-loop μ-loop
+same-length-2 c = c .before .before .before .before .before .before .before .before .before .before .before .before .before .before .before .before .loop .inv .2 .sized .rhs ∙ sym (c .before .before .before .before .before .before .before .before .before .before .before .before .before .before .before .before .before .before .before .before .before .before .before .before .before .pre .1 .0 .sized .rhs)
+
+same-length-3 : tie.Need-same-length-3 Inv-loop μ-loop
+same-length-3 c = c .before .before .before .before .before .before .before .before .before .before .before .before .before .before .before .before .loop .inv .2 .sized .parent ∙ sym (c .before .before .before .before .before .before .before .before .before .before .before .before .before .before .before .before .before .before .before .before .before .before .before .before .before .pre .1 .0 .sized .parent)
+
+same-length-4 : tie.Need-same-length-4 Inv-loop μ-loop
+same-length-4 c = let e = c .before .before .before .before .before .before .before .before .set-right .ensures (c .before .before .before .before .before .before .before .before .before .before .before .before .before .before .before .before .before .before .before .before .before .before .before .before .before .args .plan .now) (c .before .before .before .before .before .before .before .before .before .before .before .before .before .before .before .before .loop .parent) in e .heap .tables .length1 ∙ sym (c .before .before .before .before .before .before .before .before .before .before .before .before .before .before .before .before .before .before .before .before .before .before .before .before .before .pre .1 .0 .sized .k1)
+
+same-length-5 : tie.Need-same-length-5 Inv-loop μ-loop
+same-length-5 c = let e = c .before .before .before .before .before .before .before .before .set-right .ensures (c .before .before .before .before .before .before .before .before .before .before .before .before .before .before .before .before .before .before .before .before .before .before .before .before .before .args .plan .now) (c .before .before .before .before .before .before .before .before .before .before .before .before .before .before .before .before .loop .parent) in e .heap .tables .length2 ∙ sym (c .before .before .before .before .before .before .before .before .before .before .before .before .before .before .before .before .before .before .before .before .before .before .before .before .before .pre .1 .0 .sized .k2)
+
+same-length-6 : tie.Need-same-length-6 Inv-loop μ-loop
+same-length-6 c = let e = c .before .before .before .before .before .before .before .before .set-right .ensures (c .before .before .before .before .before .before .before .before .before .before .before .before .before .before .before .before .before .before .before .before .before .before .before .before .before .args .plan .now) (c .before .before .before .before .before .before .before .before .before .before .before .before .before .before .before .before .loop .parent) in e .heap .tables .agree .lengthPlace ∙ sym (c .before .before .before .before .before .before .before .before .before .before .before .before .before .before .before .before .before .before .before .before .before .before .before .before .before .pre .1 .0 .heap .tables .agree .lengthPlace)
+
+same-length-7 : tie.Need-same-length-7 Inv-loop μ-loop
+same-length-7 c = let e = c .before .before .before .before .before .before .before .before .set-right .ensures (c .before .before .before .before .before .before .before .before .before .before .before .before .before .before .before .before .before .before .before .before .before .before .before .before .before .args .plan .now) (c .before .before .before .before .before .before .before .before .before .before .before .before .before .before .before .before .loop .parent) in e .heap .tables .agree .lengthList ∙ sym (c .before .before .before .before .before .before .before .before .before .before .before .before .before .before .before .before .before .before .before .before .before .before .before .before .before .pre .1 .0 .heap .tables .agree .lengthList)
+
+returns : tie.Need-returns Inv-loop μ-loop
+returns c =
+    let i = c .before .before .before .before .before .before .before .before .before .before .before .before .before .before .before .before .loop .inv in
+    raise-is _ _ _ _ _ _ _ _ _ (c .before .before .before .before .before .before .before .before .before .before .before .before .before .before .before .before .before .before .before .before .before .before .before .before .before .args .list .now) (omega (arith, i .0, c .before .before .before .before .before .before .before .before .before .before .before .before .before .before .before .loop-test .left)) (i .1) (c .before .before .before .before .before .before .before .before .set-right .ensures _ _)
+
+pub raise-spec : {M : Type 1} → statement M
+raise-spec =
+    tie.close
+    (tie.spec
+    Inv-loop
+    μ-loop
+    mul-g
+    slice-write-g
+    loop-holds
+    renew-requires
+    add-d
+    loop-less
+    loop-again
+    set-right-requires
+    same-length
+    same-length-2
+    same-length-3
+    same-length-4
+    same-length-5
+    same-length-6
+    same-length-7
+    returns)

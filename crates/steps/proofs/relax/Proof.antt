@@ -1,0 +1,110 @@
+use mathlib.Core.Path.{refl, sym}
+use native.Mathlib.Omega.{arith}
+use Rattle.plan.proofs.MoveLaws.{area}
+use Rattle.entries.proofs.FoundLaws.{entering, held-rhs, small-rhs}
+use Rattle.steps.proofs.StepLaws.{became-as, became-same, asked-nothing, asked-to, move-asks, entered-at, sum-small}
+use borrow.Author.Needs.{needs}
+use Rattle.steps.proofs.relax.Statement.{statement}
+use Rattle.steps.proofs.relax.Tie as tie
+
+relaxation-requires : tie.Need-relaxation-requires
+relaxation-requires c κs = search needs
+
+enum-known-asked : tie.Need-enum-known-asked
+enum-known-asked c = search needs
+
+enum-told : tie.Need-enum-told
+enum-told c = search needs
+
+same-length : tie.Need-same-length
+same-length c = search needs
+
+returns : tie.Need-returns
+returns c =
+    let p = c .before .before .before .before .before .before .before .before .before .before .before .before .pre in
+    (became-same (p .1 .0) (asked-nothing _ _ _ _ _ _ (c .enum-told .given .1) (c .before .before .relaxation .ensures) _ refl), p .1 .1 .0 .1)
+
+moved-requires : tie.Need-moved-requires
+moved-requires c κs =
+    let p = c .before .before .before .before .before .before .before .before .before .before .before .before .before .pre in
+    let r = asked-to _ _ _ _ _ _ (c .before .asked .given .1) (c .before .before .before .relaxation .ensures) in
+    move-asks (p .0) (r .enters) (p .1 .1 .1 .1) (p .1 .1 .1 .2)
+
+mul-rhs : tie.Need-mul-rhs
+mul-rhs c =
+    let p = c .before .before .before .before .before .before .before .before .before .before .before .before .before .before .pre in
+    omega (arith, asked-to _ _ _ _ _ _ (c .before .before .asked .given .1) (c .before .before .before .before .relaxation .ensures) .enters .inside, area (p .0 .obeys .size))
+
+slice-write-rhs : tie.Need-slice-write-rhs
+slice-write-rhs c =
+    let p = c .before .before .before .before .before .before .before .before .before .before .before .before .before .before .pre in
+    omega (arith, asked-to _ _ _ _ _ _ (c .before .before .asked .given .1) (c .before .before .before .before .relaxation .ensures) .enters .inside, p .1 .0 .sized .rhs)
+
+add-parent : tie.Need-add-parent
+add-parent c = search needs
+
+add-parent-2 : tie.Need-add-parent-2
+add-parent-2 c = search needs
+
+cast-parent : tie.Need-cast-parent
+cast-parent c = search needs
+
+slice-write-parent : tie.Need-slice-write-parent
+slice-write-parent c =
+    let p = c .before .before .before .before .before .before .before .before .before .before .before .before .before .before .pre in
+    omega (arith, asked-to _ _ _ _ _ _ (c .before .before .asked .given .1) (c .before .before .before .before .relaxation .ensures) .enters .inside, p .1 .0 .sized .parent)
+
+set-right-requires : tie.Need-set-right-requires
+set-right-requires c κs =
+    let p = c .before .before .before .before .before .before .before .before .before .before .before .before .before .before .before .before .before .before .before .pre in
+    let r = asked-to _ _ _ _ _ _ (c .before .before .before .before .before .before .before .asked .given .1) (c .before .before .before .before .before .before .before .before .before .relaxation .ensures) in
+    entering (p .0) (held-rhs _ _ 0 (p .1 .0)) (p .1 .1 .0 .0) (small-rhs _ _ (p .1 .0) (r .enters .inside) (sum-small (r .sum-le) (p .1 .1 .1 .3)) (p .1 .1 .0 .1)) (r .enters .inside) (entered-at (p .0) (r .enters) (p .1 .1 .1 .1) (c .before .before .before .before .before .moved .ensures))
+
+same-length-2 : tie.Need-same-length-2
+same-length-2 c = search needs
+
+same-length-3 : tie.Need-same-length-3
+same-length-3 c = search needs
+
+same-length-4 : tie.Need-same-length-4
+same-length-4 c = search needs
+
+same-length-5 : tie.Need-same-length-5
+same-length-5 c = search needs
+
+same-length-6 : tie.Need-same-length-6
+same-length-6 c = search needs
+
+same-length-7 : tie.Need-same-length-7
+same-length-7 c = search needs
+
+returns-2 : tie.Need-returns-2
+returns-2 c =
+    let p = c .before .before .before .before .before .before .before .before .before .before .before .before .before .before .before .before .before .before .before .before .before .before .before .before .before .before .before .before .pre in
+    let r = asked-to _ _ _ _ _ _ (c .before .before .before .before .before .before .before .before .before .before .before .before .before .before .before .before .asked .given .1) (c .before .before .before .before .before .before .before .before .before .before .before .before .before .before .before .before .before .before .relaxation .ensures) in
+    (became-as (c .before .before .before .before .before .before .before .before .set-right .ensures _ _) (sym (r .is _ refl)), small-rhs _ _ (p .1 .0) (r .enters .inside) (sum-small (r .sum-le) (p .1 .1 .1 .3)) (p .1 .1 .0 .1))
+
+pub relax-spec : {M : Type 1} → statement M
+relax-spec =
+    tie.close
+    (tie.spec
+    relaxation-requires
+    enum-known-asked
+    enum-told
+    same-length
+    returns
+    moved-requires
+    mul-rhs
+    slice-write-rhs
+    add-parent
+    add-parent-2
+    cast-parent
+    slice-write-parent
+    set-right-requires
+    same-length-2
+    same-length-3
+    same-length-4
+    same-length-5
+    same-length-6
+    same-length-7
+    returns-2)

@@ -1,0 +1,68 @@
+use native.Mathlib.Omega.{arith}
+use Rattle.plan.proofs.MoveLaws.{area}
+use Rattle.entries.proofs.AnewLaws.{said-shut, said-to}
+use Rattle.steps.proofs.AskLaws.{enters-by, relaxes-none, relaxes-hunter, relaxes-not, relaxes-to}
+use borrow.Author.Needs.{needs}
+use Rattle.steps.proofs.relaxation.Statement.{statement}
+use Rattle.steps.proofs.relaxation.Tie as tie
+
+move-out-requires : tie.Need-move-out-requires
+move-out-requires c κs = search needs
+
+enum-known-reach : tie.Need-enum-known-reach
+enum-known-reach c = search needs
+
+enum-told : tie.Need-enum-told
+enum-told c = search needs
+
+returns : tie.Need-returns
+returns c =
+    let p = c .before .before .before .before .before .pre in
+    relaxes-none (p .0) _ _ (p .1 .1 .1) _ (said-shut _ (c .enum-told .given .1) (c .before .before .move-out .ensures))
+
+returns-2 : tie.Need-returns-2
+returns-2 c =
+    let p = c .before .before .before .before .before .before .before .before .pre in
+    relaxes-hunter (p .0) _ _ (p .1 .1 .1) _ (said-to _ (c .before .before .before .reach .given .1) (c .before .before .before .before .before .move-out .ensures)) (c .if1 .taken)
+
+cast-sum : tie.Need-cast-sum
+cast-sum c = search needs
+
+add-sum : tie.Need-add-sum
+add-sum c = search needs
+
+mul-if2 : tie.Need-mul-if2
+mul-if2 c =
+    let p = c .before .before .before .before .before .before .before .before .pre in
+    omega (arith, enters-by (p .0) _ _ (p .1 .1 .1) (said-to _ (c .before .before .before .reach .given .1) (c .before .before .before .before .before .move-out .ensures)) .0 .inside, area (p .0 .obeys .size))
+
+shared-slice-read-if2 : tie.Need-shared-slice-read-if2
+shared-slice-read-if2 c =
+    let p = c .before .before .before .before .before .before .before .before .before .pre in
+    omega (arith, enters-by (p .0) _ _ (p .1 .1 .1) (said-to _ (c .before .before .before .before .reach .given .1) (c .before .before .before .before .before .before .move-out .ensures)) .0 .inside, p .1 .0)
+
+returns-3 : tie.Need-returns-3
+returns-3 c =
+    let p = c .before .before .before .before .before .before .before .before .before .before .pre in
+    relaxes-not (p .0) _ _ (p .1 .1 .1) _ (said-to _ (c .before .before .before .before .before .reach .given .1) (c .before .before .before .before .before .before .before .move-out .ensures)) (c .before .before .if1 .left) (c .if2 .taken)
+
+returns-4 : tie.Need-returns-4
+returns-4 c =
+    let p = c .before .before .before .before .before .before .before .before .before .before .pre in
+    relaxes-to (p .0) _ _ (p .1 .1 .1) _ (said-to _ (c .before .before .before .before .before .reach .given .1) (c .before .before .before .before .before .before .before .move-out .ensures)) (c .before .before .if1 .left) (c .if2 .left)
+
+pub relaxation-spec : {M : Type 1} → statement M
+relaxation-spec =
+    tie.close
+    (tie.spec
+    move-out-requires
+    enum-known-reach
+    enum-told
+    returns
+    returns-2
+    cast-sum
+    add-sum
+    mul-if2
+    shared-slice-read-if2
+    returns-3
+    returns-4)

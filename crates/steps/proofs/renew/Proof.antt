@@ -1,0 +1,77 @@
+use mathlib.Core.Path.{refl, sym}
+use Rattle.steps.proofs.StepLaws.{became-as, became-same, asked-not, asked-is, move-asks, entered-at}
+use borrow.Author.Needs.{needs}
+use Rattle.steps.proofs.renew.Statement.{statement}
+use Rattle.steps.proofs.renew.Tie as tie
+
+child-by-requires : tie.Need-child-by-requires
+child-by-requires c κs = search needs
+
+enum-known-asked : tie.Need-enum-known-asked
+enum-known-asked c = search needs
+
+enum-told : tie.Need-enum-told
+enum-told c = search needs
+
+same-length : tie.Need-same-length
+same-length c = search needs
+
+returns : tie.Need-returns
+returns c =
+    let p = c .before .before .before .before .before .before .before .before .before .before .before .before .pre in
+    (became-same (p .1 .0) (asked-not _ _ _ _ _ (c .enum-told .given .1) (c .before .before .child-by .ensures) _ refl), p .1 .1 .0 .1)
+
+moved-requires : tie.Need-moved-requires
+moved-requires c κs =
+    let p = c .before .before .before .before .before .before .before .before .before .before .before .before .before .pre in
+    let r = asked-is _ _ _ _ _ (c .before .asked .given .1) (c .before .before .before .child-by .ensures) in
+    move-asks (p .0) (r .enters) (p .1 .1 .1 .1) (p .1 .1 .1 .2)
+
+found-anew-requires : tie.Need-found-anew-requires
+found-anew-requires c κs =
+    let p = c .before .before .before .before .before .before .before .before .before .before .before .before .before .before .before .before .before .before .before .before .pre in
+    let r = asked-is _ _ _ _ _ (c .before .before .before .before .before .before .before .before .asked .given .1) (c .before .before .before .before .before .before .before .before .before .before .child-by .ensures) in
+    (p .0, (p .1 .0, (p .1 .1 .0, (r .enters .inside, entered-at (p .0) (r .enters) (p .1 .1 .1 .1) (c .before .before .before .before .before .before .moved .ensures)))))
+
+same-length-2 : tie.Need-same-length-2
+same-length-2 c = search needs
+
+same-length-3 : tie.Need-same-length-3
+same-length-3 c = search needs
+
+same-length-4 : tie.Need-same-length-4
+same-length-4 c = search needs
+
+same-length-5 : tie.Need-same-length-5
+same-length-5 c = search needs
+
+same-length-6 : tie.Need-same-length-6
+same-length-6 c = search needs
+
+same-length-7 : tie.Need-same-length-7
+same-length-7 c = search needs
+
+returns-2 : tie.Need-returns-2
+returns-2 c =
+    let r = asked-is _ _ _ _ _ (c .before .before .before .before .before .before .before .before .before .before .before .before .before .before .before .before .before .before .before .before .before .asked .given .1) (c .before .before .before .before .before .before .before .before .before .before .before .before .before .before .before .before .before .before .before .before .before .before .before .child-by .ensures) in
+    let e = c .before .before .before .before .before .before .before .before .before .before .before .before .found-anew .ensures in
+    (became-as (e .0) (sym (r .is _ refl)), e .1)
+
+pub renew-spec : {M : Type 1} → statement M
+renew-spec =
+    tie.close
+    (tie.spec
+    child-by-requires
+    enum-known-asked
+    enum-told
+    same-length
+    returns
+    moved-requires
+    found-anew-requires
+    same-length-2
+    same-length-3
+    same-length-4
+    same-length-5
+    same-length-6
+    same-length-7
+    returns-2)

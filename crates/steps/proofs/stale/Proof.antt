@@ -1,0 +1,62 @@
+use Rattle.plan.proofs.MoveLaws.{placed}
+use Rattle.steps.proofs.KeyLaws.{stale-is, key-room}
+use borrow.Author.Needs.{needs}
+use Rattle.steps.proofs.stale.Statement.{statement}
+use Rattle.steps.proofs.stale.Tie as tie
+
+mul-lesser : tie.Need-mul-lesser
+mul-lesser c = search needs
+
+shared-slice-read-lesser : tie.Need-shared-slice-read-lesser
+shared-slice-read-lesser c = search needs
+
+mul-lesser-2 : tie.Need-mul-lesser-2
+mul-lesser-2 c = search needs
+
+shared-slice-read-lesser-2 : tie.Need-shared-slice-read-lesser-2
+shared-slice-read-lesser-2 c = search needs
+
+lesser-requires : tie.Need-lesser-requires
+lesser-requires c κs = search needs
+
+first-key-requires : tie.Need-first-key-requires
+first-key-requires c κs =
+    let K = c .before .before .before .before .before .before .before .pre in
+    let q = placed (K .size) (K .stands) (K .inside) in
+    let r = placed (K .size) (K .target-at) (K .target-in) in
+    ((record { row = q .0; column = q .1 }, r .0, r .1), key-room K (c .lesser .ensures))
+
+mul-precedes : tie.Need-mul-precedes
+mul-precedes c = search needs
+
+shared-slice-read-precedes : tie.Need-shared-slice-read-precedes
+shared-slice-read-precedes c = search needs
+
+mul-precedes-2 : tie.Need-mul-precedes-2
+mul-precedes-2 c = search needs
+
+shared-slice-read-precedes-2 : tie.Need-shared-slice-read-precedes-2
+shared-slice-read-precedes-2 c = search needs
+
+precedes-requires : tie.Need-precedes-requires
+precedes-requires c κs = search needs
+
+returns : tie.Need-returns
+returns c = stale-is (c .before .before .before .before .before .before .before .before .before .before .before .pre) (c .before .before .before .before .lesser .ensures) (c .before .before .before .first-key .ensures) (c .precedes .ensures)
+
+pub stale-spec : {M : Type 1} → statement M
+stale-spec =
+    tie.close
+    (tie.spec
+    mul-lesser
+    shared-slice-read-lesser
+    mul-lesser-2
+    shared-slice-read-lesser-2
+    lesser-requires
+    first-key-requires
+    mul-precedes
+    shared-slice-read-precedes
+    mul-precedes-2
+    shared-slice-read-precedes-2
+    precedes-requires
+    returns)
