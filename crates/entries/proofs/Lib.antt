@@ -1,3 +1,4 @@
 pub mod EntryLaws
 pub mod AnewLaws
 pub mod FoundLaws
+pub mod FreshLaws

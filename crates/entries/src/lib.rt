@@ -8,11 +8,12 @@ ghost use Prim.Native.Nat.{ℕ, _+_, _*_, _<_, _≤_, min};
 ghost use lib.ListN.{length, replicate};
 ghost use Rattle.method.specs.Numbers.{infinite};
 ghost use Rattle.method.specs.Tables.{leastOver, anew as anewOf, foundAnew};
+ghost use Rattle.method.specs.Session.{fresh as freshOf};
 ghost use Rattle.plan.specs.Costs.{Obeys, planOf};
 ghost use Rattle.plan.specs.Grid.{intoBy, graphOf};
 ghost use Rattle.plan.specs.Reached.{At, Placed, between};
-ghost use Rattle.tables.specs.Lent.{core, given, before, after};
-ghost use Rattle.entries.specs.Aims.{area, hunt, Aimed, Held, Small, mostG, mostRhs};
+ghost use Rattle.tables.specs.Lent.{core, given, before, after, Fits};
+ghost use Rattle.entries.specs.Aims.{area, floor, hunt, Aimed, Held, Small, mostG, mostRhs};
 ghost use Rattle.entries.specs.Became.{Became, Entering, Entered, foundOf};
 
 // What a search goes by: the plan's size, the hunter and the target taken over, the target's row and column, and km.
@@ -168,4 +169,61 @@ pub fn found_anew(
     rhs[cell] = f.rhs;
     parent[cell] = f.parent;
     set_right(a, g, rhs, k1, k2, place, list, count, cell, at)
+}
+
+// Every number of a table of 32 bits becomes v.
+fn fill_words(xs: &mut [u32], v: u32)
+    ensures { λ _. ⌜ now (xs .exit) ≡ replicate (length (now (xs .entry))) v ⌝ }
+{
+    for i in 0..xs.len() {
+        xs[i] = v;
+    }
+}
+
+// The same for a table of 16 bits.
+fn fill_halves(xs: &mut [u16], v: u16)
+    ensures { λ _. ⌜ now (xs .exit) ≡ replicate (length (now (xs .entry))) v ⌝ }
+{
+    for i in 0..xs.len() {
+        xs[i] = v;
+    }
+}
+
+// The same for a table of bytes.
+fn fill_bytes(xs: &mut [u8], v: u8)
+    ensures { λ _. ⌜ now (xs .exit) ≡ replicate (length (now (xs .entry))) v ⌝ }
+{
+    for i in 0..xs.len() {
+        xs[i] = v;
+    }
+}
+
+// All tables as at a fresh start: all infinite and absent, but for the hunter, whose rhs is 0 and who is queued under its key. Returns the queue's count, which is 1.
+pub fn fresh(
+    a: Aim,
+    plan: &[u8],
+    g: &mut [u32],
+    rhs: &mut [u32],
+    parent: &mut [u8],
+    k1: &mut [u32],
+    k2: &mut [u32],
+    place: &mut [u16],
+    list: &mut [u16],
+) -> usize
+    requires { ⌜ Aimed a (now plan) × (a .km ≡ 0) ⌝ }
+    requires { ⌜ Fits (area a) (given plan g rhs parent k1 k2 place list) ⌝ }
+    ensures { λ r. ⌜ Became a r (after plan g rhs parent k1 k2 place list) (freshOf (graphOf (floor a (now (plan .entry)))) (a .hunter) (a .target)) ⌝ }
+    ensures { λ r. ⌜ r ≡ 1 ⌝ }
+{
+    fill_words(g, INFINITE);
+    fill_words(rhs, INFINITE);
+    fill_bytes(parent, 0);
+    fill_words(k1, 0);
+    fill_words(k2, 0);
+    fill_halves(place, queue::ABSENT);
+    fill_halves(list, queue::ABSENT);
+    let hunter = a.hunter;
+    rhs[hunter] = 0;
+    let at = plan::spot_of(a.width, hunter);
+    set_right(a, g, rhs, k1, k2, place, list, 0, hunter, at)
 }

@@ -1,18 +1,18 @@
 -- What right tables answer when the loop has stopped: the cells from parent to parent are a cheapest chain, or there is no chain.
-use mathlib.Core.Path.{_≡_, sym, ap, subst}
+use mathlib.Core.Path.{_≡_, refl, sym, ap, subst, _∙_}
 use mathlib.Core.Logic.{_⊎_, inl, inr, _≢_}
-use mathlib.Core.List.{List, [], _∷_, List·Memᴰ, List·Memᴰ·head, List·Memᴰ·tail, List·Memᴰ·not-nil, List·Memᴰ·cases-cons}
+use mathlib.Core.List.{List, [], _∷_, _++_, append-assoc, List·Memᴰ, List·Memᴰ·head, List·Memᴰ·tail, List·Memᴰ·not-nil, List·Memᴰ·cases-cons}
 use Prim.Native.Nat.{ℕ, zero, suc, _+_, _-_, _≤_, _<_}
 use native.Mathlib.Omega.{arith}
 use native.Mathlib.Decide.{ℕ-discrete, decLe}
-use lib.ListN.{length, getD}
+use lib.ListN.{length, getD, length-append}
 use Rattle.method.specs.Numbers.{infinite, mostCost}
 use Rattle.method.specs.Graph.{Move, move, Graph, Comes, GraphLaws, Hunt}
 use Rattle.method.specs.Tables.{Tables, gAt, rhsAt, parentAt, storedKey}
 use Rattle.method.specs.Session.{parentCell, wayFrom}
 use Rattle.method.specs.Walk.{Chain, stay, go, NoChain, Cheapest}
 use Rattle.method.proofs.Counting.{lack, lack-le, lack-no, lack-keep, lack-gain, sum, sum-bound, sum-drop}
-use Rattle.method.proofs.Choices.{choose-is}
+use Rattle.method.proofs.Choices.{choose-yes, choose-no, choose-is}
 use Rattle.method.proofs.Notions.{Stands, keyAt, key, Inconsistent, ReachedAt, Right}
 
 -- The loop has stopped: rhs of the target is not above its g, and no stored key is below the target's finite key.
@@ -70,6 +70,11 @@ upTo-less H T s w l lt =
 chain-estimate : {G : Graph} → GraphLaws G → {a e d : ℕ} {l : List ℕ} → Chain G a l e d → G .estimate a e ≤ d
 chain-estimate L (stay {a}) = omega (arith, L .self a)
 chain-estimate L (go {a} {b} {k} {c} {e = e} m w) = omega (arith, chain-estimate L w, L .near b k a c e m)
+
+-- The parents lead from s to the hunter, over the cells of l, hunter first.
+pub data Trail (H : Hunt) (parent : List ℕ) : ℕ → List ℕ → Type 0 where
+  home : Trail H parent (H .hunter) (H .hunter ∷ [])
+  link : {s w c : ℕ} {l : List ℕ} → s ≢ H .hunter → Comes (H .graph) s (getD parent s 0) w c → Trail H parent w l → Trail H parent s (l ++ (s ∷ []))
 
 -- The list l of cells leads from the hunter to the target, where s led there at cost d.
 record Led (H : Hunt) (T : Tables) (s d : ℕ) (rest l : List ℕ) : Type 0 where
@@ -202,3 +207,47 @@ module _ {H : Hunt} {T : Tables} (L : Stands H) (R : Right H T) (Z : Stopped H T
       let r = way-from (H .graph .cells) (H .target) 0 [] (omega arith) (L .target-in) fin (omega (arith, Z .not-over)) stay in
       let e : r .cost ≡ rhsAt T (H .target) - rhsAt T (H .hunter) = omega (arith, r .sum) in
       (record { leads = rw e at (r .leads); least = λ l d w. omega (arith, every-chain w) }, omega (arith, r .short))
+
+  -- the parents lead from s to the hunter
+  trail-from : (n s : ℕ) → upTo H T (rhsAt T s) ≤ n → s < H .graph .cells → rhsAt T s < infinite → keyAt H s (rhsAt T s) ≤ key H T (H .target)
+      → (l : List ℕ) × Trail H (T .parent) s l × (length l ≤ upTo H T (rhsAt T s))
+  trail-from zero s h l fin kl = absurd (omega (arith, upTo-self H T s l))
+  trail-from (suc n) s h l fin kl = at (λ x. trail-from n x) (ℕ-discrete s (H .hunter))
+    where
+      on : ((x : ℕ) → upTo H T (rhsAt T x) ≤ n → x < H .graph .cells → rhsAt T x < infinite → keyAt H x (rhsAt T x) ≤ key H T (H .target)
+          → (l : List ℕ) × Trail H (T .parent) x l × (length l ≤ upTo H T (rhsAt T x))) → s ≢ H .hunter → Parent s
+          → (l : List ℕ) × Trail H (T .parent) s l × (length l ≤ upTo H T (rhsAt T s))
+      on ih ns p =
+          let up : upTo H T (rhsAt T (p .from)) < upTo H T (rhsAt T s) = upTo-less H T s (p .from) l (p .less) in
+          let lt : rhsAt T (p .from) < rhsAt T s = p .less in
+          let r = ih (p .from) (omega arith) (p .from-in) (omega arith) (p .key-le) in
+          (r .0 ++ (s ∷ []), link ns (p .comes) (r .1), omega (arith, length-append (r .0) (s ∷ []), r .2))
+
+      at : ((x : ℕ) → upTo H T (rhsAt T x) ≤ n → x < H .graph .cells → rhsAt T x < infinite → keyAt H x (rhsAt T x) ≤ key H T (H .target)
+          → (l : List ℕ) × Trail H (T .parent) x l × (length l ≤ upTo H T (rhsAt T x))) → Dec (s ≡ H .hunter)
+          → (l : List ℕ) × Trail H (T .parent) s l × (length l ≤ upTo H T (rhsAt T s))
+      at ih (yes e) = (H .hunter ∷ [], subst (λ x. Trail H (T .parent) x (H .hunter ∷ [])) (sym e) home, omega (arith, upTo-self H T s l))
+      at ih (no ns) = on ih ns (parent-of s l ns fin kl)
+
+  -- rhs of the target finite: the parents lead from the target to the hunter over at most as many cells as the graph has
+  pub trail : rhsAt T (H .target) < infinite → (l : List ℕ) × Trail H (T .parent) (H .target) l × (length l ≤ H .graph .cells)
+  trail fin =
+      let r = trail-from (upTo H T (rhsAt T (H .target))) (H .target) (omega arith) (L .target-in) fin (omega (arith, Z .not-over)) in
+      (r .0, r .1, omega (arith, r .2, upTo-le H T (rhsAt T (H .target))))
+
+trail-long : {H : Hunt} {parent : List ℕ} {s : ℕ} {l : List ℕ} → Trail H parent s l → 1 ≤ length l
+trail-long home = omega arith
+trail-long (link {s} {l = l} n m t) = omega (arith, length-append l (s ∷ []))
+
+-- The cells of the way are those of the trail, hunter first.
+pub trail-way : {H : Hunt} → GraphLaws (H .graph) → {parent : List ℕ} {s : ℕ} {l : List ℕ} → Trail H parent s l → (links : ℕ) (rest : List ℕ) → length l ≤ suc links
+    → wayFrom H parent links s rest ≡ l ++ rest
+unfolding wayFrom
+trail-way L home zero rest h = refl
+trail-way {H} L {parent} home (suc links) rest h = choose-yes (ℕ-discrete (H .hunter) (H .hunter)) (H .hunter ∷ rest) _ refl
+trail-way L (link {s} {l = l} n m t) zero rest h = absurd (omega (arith, length-append l (s ∷ []), trail-long t))
+trail-way {H} L {parent} (link {s} {l = l} n m t) (suc links) rest h =
+    choose-no (ℕ-discrete s (H .hunter)) (s ∷ rest) _ n
+    ∙ ap (λ x. wayFrom H parent links x (s ∷ rest)) (parent-cell L m)
+    ∙ trail-way L t links (s ∷ rest) (omega (arith, length-append l (s ∷ [])))
+    ∙ sym (append-assoc l (s ∷ []) rest)

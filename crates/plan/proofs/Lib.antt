@@ -3,3 +3,4 @@ pub mod CellLaws
 pub mod EstimateLaws
 pub mod GridLaws
 pub mod MoveLaws
+pub mod ChangeLaws

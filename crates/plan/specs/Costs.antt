@@ -4,7 +4,7 @@ use mathlib.Core.Logic.{_⊎_, Dec·and}
 use mathlib.Core.List.{List}
 use Prim.Native.Nat.{ℕ, _+_, _*_, _≤_, _<_}
 use native.Mathlib.Decide.{decLe}
-use lib.ListN.{length, getD}
+use lib.ListN.{length, getD, set}
 use Rattle.method.specs.Numbers.{mostCost}
 use Rattle.plan.specs.Cells.{Size, Stays}
 
@@ -39,6 +39,10 @@ cells p = p .height * p .width
 -- The byte of the move from cell s in direction d.
 abbrev pub byte : Plan → ℕ → ℕ → ℕ
 byte p s d = getD (p .bytes) (4 * s + d) 0
+
+-- The plan with the byte of the move from cell s in direction d set to c.
+abbrev pub withByte : Plan → ℕ → ℕ → ℕ → Plan
+withByte p s d c = planOf (p .width) (p .height) (set (p .bytes) (4 * s + d) c)
 
 -- Every byte of the plan is a cost or shut.
 abbrev pub Bytes : Plan → Type 0
