@@ -2,3 +2,4 @@ pub mod EntryLaws
 pub mod AnewLaws
 pub mod FoundLaws
 pub mod FreshLaws
+pub mod SmallLaws

@@ -11,6 +11,7 @@ use Rattle.queue.specs.Queue.{Heap}
 use Rattle.plan.specs.Cells.{Stands}
 use Rattle.plan.specs.Costs.{Plan, planOf, Obeys}
 use Rattle.plan.specs.Grid.{graphOf}
+use Rattle.tables.specs.declared.Session.{Session}
 use Rattle.tables.specs.Lent.{Tables, core}
 use Rattle.entries.specs.declared.Aim.{Aim}
 
@@ -24,6 +25,11 @@ floor a plan = planOf (a .width) (a .height) plan
 -- The method's hunt.
 abbrev pub hunt : Aim → List ℕ → Hunt
 hunt a plan = record { graph = graphOf (floor a plan); hunter = a .hunter; target = a .target; km = a .km }
+
+-- What the last search taken over goes by, with its target's row and column.
+abbrev pub aimOf : Session → ℕ → ℕ → Aim
+aimOf s row column =
+    record { width = s .width; height = s .height; hunter = s .origin; target = s .goal; row = row; column = column; km = s .km }
 
 -- The greatest finite g, and the greatest finite rhs, that the inner functions add to without reaching infinite.
 abbrev pub mostG : ℕ

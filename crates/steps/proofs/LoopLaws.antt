@@ -6,8 +6,7 @@ use mathlib.Core.Option.{Option, none, some}
 use mathlib.Core.List.{List, []}
 use Prim.Native.Nat.{ℕ, suc, _+_, _-_, _*_, _≤_, _<_}
 use native.Mathlib.Omega.{arith}
-use native.Mathlib.Decide.{decLt}
-use lib.ListN.{getD, length, List·getD-eq-default}
+use lib.ListN.{getD, length}
 use Rattle.method.specs.Numbers.{infinite, mostCost}
 use Rattle.method.specs.Graph.{Hunt}
 use Rattle.method.specs.Tables as method
@@ -20,6 +19,7 @@ use Rattle.tables.specs.Lent.{Tables, tables, core}
 use Rattle.entries.specs.declared.Aim.{Aim}
 use Rattle.entries.specs.Aims.{area, hunt, mostG, mostKm, Aimed, Held, Small}
 use Rattle.entries.specs.Became.{Became}
+use Rattle.entries.proofs.SmallLaws.{small-by}
 use Rattle.steps.specs.Loop.{Goal, Choosing, Chosen, nextOf, Started, Finished}
 use Rattle.steps.specs.declared.Choice.{Choice}
 use Rattle.steps.specs.declared.Choice.the-variants.{Done, On}
@@ -62,14 +62,6 @@ pub record Going (a : Aim) (plan : List ℕ) (count : ℕ) (t₀ t : Tables) (li
 pub going-first : {a : Aim} {count : ℕ} {plan g rhs parent k1 k2 place list : List ℕ} (limit : ℕ) → Started a count (tables plan g rhs parent k1 k2 place list)
     → Going a plan count (tables plan g rhs parent k1 k2 place list) (tables plan g rhs parent k1 k2 place list) limit 0
 going-first {a} {plan = plan} limit S = record { held = S .held; bound = S .bound; during = S .during; small = S .small; rest = rest-first (hunt a plan) _ limit }
-
--- the numbers of every cell are small
-small-by : (l : List ℕ) (n : ℕ) → length l ≡ n → ((k : ℕ) → k < n → (getD l k 0 ≡ infinite) ⊎ (getD l k 0 ≤ mostG)) → Small mostG l
-small-by l n z f k = at (decLt k n)
-  where
-    at : Dec (k < n) → (getD l k 0 ≡ infinite) ⊎ (getD l k 0 ≤ mostG)
-    at (yes h) = f k h
-    at (no h) = inr (omega (arith, List·getD-eq-default l 0 {n = k} (omega arith)))
 
 module _ {a : Aim} {count limit steps : ℕ} {t₀ : Tables} {plan g rhs parent k1 k2 place list : List ℕ} (A : Aimed a plan) (G : Going a plan count t₀ (tables plan g rhs parent k1 k2 place list) limit steps) where
   pub g-small : Small mostG g

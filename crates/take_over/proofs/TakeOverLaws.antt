@@ -1,0 +1,190 @@
+-- Target and hunter taken over, or a fresh start: the code's ways are the method's.
+use mathlib.Core.Path.{_≡_, refl, sym, ap, subst, _∙_}
+use mathlib.Core.Logic.{_≢_}
+use mathlib.Core.List.{List}
+use Prim.Native.Nat.{ℕ, _+_, _*_, _≤_, _<_}
+use native.Mathlib.Omega.{arith}
+use native.Mathlib.Decide.{ℕ-discrete}
+use lib.ListN.{getD, length, set, length-set}
+use Rattle.method.specs.Numbers.{infinite, mostSearches}
+use Rattle.method.specs.Graph.{Graph}
+use Rattle.method.specs.Tables as method
+use Rattle.method.specs.Session as calls
+use Rattle.method.proofs.Choices.{choose-yes, choose-no}
+use Rattle.method.proofs.Readying.{handedOver-sized}
+use Rattle.plan.specs.Cells.{Size, Stands, estimate}
+use Rattle.plan.specs.Costs.{Obeys}
+use Rattle.plan.specs.Grid.{graphOf}
+use Rattle.plan.specs.Reached.{At, Placed, between}
+use Rattle.plan.specs.declared.Spot.{Spot}
+use Rattle.plan.proofs.EstimateLaws.{estimate-le}
+use Rattle.plan.proofs.MoveLaws.{placed}
+use Rattle.tables.specs.declared.Session.{Session}
+use Rattle.tables.specs.Lent.{Tables, tables, cells, floor, graph, session, core, Fits}
+use Rattle.tables.specs.Sound.{Sound}
+use Rattle.tables.proofs.WalkLaws.{estimate-at}
+use Rattle.entries.specs.declared.Aim.{Aim}
+use Rattle.entries.specs.Aims as aims
+use Rattle.entries.specs.Aims.{aimOf, hunt, Aimed, Held, Small, mostG, mostRhs, mostKm}
+use Rattle.entries.specs.Became.{Became}
+use Rattle.entries.proofs.SmallLaws.{sound-small-g, sound-small-rhs}
+use Rattle.take_over.specs.TakeOver.{AimOf, aimedAnew, handOver, Restarting, Aiming, Handing, Holds}
+
+-- ---- what the last search goes by
+
+pub aimed : {s : Session} {a : Aim} {plan : List ℕ} → AimOf s a → Obeys (floor s plan) → s .origin < cells s → s .goal < cells s → s .km ≤ mostKm → Aimed a plan
+aimed {s} {a} {plan} O p h g k =
+    subst (λ x. Aimed x plan) (sym (O .is)) (record { obeys = p; hunter-in = h; target-in = g; target-at = O .target-at; km-le = k })
+
+-- what the tables became, told of the record
+pub became-of : {s : Session} {a : Aim} {count : ℕ} {t : Tables} (f : Aim → method.Tables) → AimOf s a → Became a count t (f a)
+    → Became (aimOf s (a .row) (a .column)) count t (f (aimOf s (a .row) (a .column)))
+became-of {count = count} {t = t} f O = subst (λ x. Became x count t (f x)) (O .is)
+
+pub spot-placed : {width height cell : ℕ} {at : Spot} → Size width height → At width cell at → cell < height * width → Placed at
+spot-placed z a l = let q = placed z a l in record { row = q .0; column = q .1 }
+
+-- ---- a fresh start
+
+-- The record of a fresh start at the placed cells, with so many cells queued.
+abbrev pub restarted : Session → ℕ → Session
+restarted s count = record { width = s .width; height = s .height; hunter = s .hunter; target = s .target; origin = s .hunter; goal = s .target; km = 0; count = count; searches = 0 }
+
+module _ {s : Session} {t : Tables} {a : Aim} (R : Restarting s t) (O : AimOf (restarted s 0) a) where
+  pub fresh-ready : (Aimed a (t .plan) × (a .km ≡ 0)) × Fits (aims.area a) t
+  fresh-ready =
+      ((aimed O (R .obeys) (R .hunter-in) (R .target-in) (omega arith), ap (λ x. x .km) (O .is)), subst (λ x. Fits (aims.area x) t) (sym (O .is)) (R .fits))
+
+  pub fresh-holds : {count : ℕ} {t′ : Tables} → Became a count t′ (calls.fresh (graphOf (aims.floor a (t .plan))) (a .hunter) (a .target))
+      → Holds s (calls.freshStart (graph s t) (s .hunter) (s .target)) (restarted s count) t′
+  fresh-holds B =
+      let b = became-of (λ x. calls.fresh (graphOf (aims.floor x (t .plan))) (x .hunter) (x .target)) O B in
+      record { wide = refl; high = refl; record-is = refl; tables-are = b .is; heap = b .heap }
+
+-- ---- the target taken over
+
+abbrev kmAt : Session → ℕ → Session
+kmAt s km = record { width = s .width; height = s .height; hunter = s .hunter; target = s .target; origin = s .origin; goal = s .target; km = km; count = s .count; searches = s .searches }
+
+module _ {s : Session} (A : Aiming s) {old new : Spot} (o : At (s .width) (s .goal) old) (n : At (s .width) (s .target) new) where
+  estimate-is : between old new ≡ estimate (s .width) (s .goal) (s .target)
+  estimate-is = estimate-at o n
+
+  pub both-placed : Placed old × Placed new
+  both-placed = (spot-placed (A .size) o (A .old-in), spot-placed (A .size) n (A .new-in))
+
+  pub km-room : {e : ℕ} → e ≡ between old new → s .km + e < 4294967296
+  km-room e = omega (arith, e, estimate-is, estimate-le (A .size) (s .goal) (s .target) (A .old-in) (A .new-in), A .km-le)
+
+  pub taken-is : {e : ℕ} → e ≡ between old new → kmAt s (s .km + e) ≡ aimedAnew s
+  taken-is e = ap (λ x. kmAt s (s .km + x)) (e ∙ estimate-is)
+
+-- ---- the hunter taken over
+
+-- The record with the hunter taken over, and so many cells queued.
+abbrev pub handed : Session → ℕ → Session
+handed s count = record { width = s .width; height = s .height; hunter = s .hunter; target = s .target; origin = s .hunter; goal = s .goal; km = s .km; count = count; searches = s .searches }
+
+abbrev pub orphaned : Session → Tables → Tables
+orphaned s t = tables (t .plan) (t .g) (t .rhs) (set (t .parent) (s .hunter) 0) (t .k1) (t .k2) (t .place) (t .list)
+
+module _ {s : Session} {t : Tables} {a : Aim} (R : Handing s t) (O : AimOf (handed s (s .count)) a) where
+  pub hand-aimed : Aimed a (t .plan)
+  hand-aimed = aimed O (R .obeys) (R .new-in) (R .goal-in) (R .km-le)
+
+  pub hand-held : Held a (s .count) (orphaned s t)
+  hand-held =
+      subst (λ x. Held x (s .count) (orphaned s t)) (sym (O .is))
+      (record {
+        sized = record {
+          g = R .sized .g;
+          rhs = R .sized .rhs;
+          parent = length-set (t .parent) (s .hunter) 0 ∙ R .sized .parent;
+          k1 = R .sized .k1;
+          k2 = R .sized .k2;
+          queued = R .sized .queued;
+        };
+        heap = R .heap;
+      })
+
+  pub hand-cell : {at : Spot} → At (s .width) (s .origin) at → (s .origin < aims.area a) × At (a .width) (s .origin) at
+  hand-cell {at} h = subst (λ x. (s .origin < aims.area x) × At (x .width) (s .origin) at) (sym (O .is)) (R .old-in, h)
+
+  pub hand-holds : {count : ℕ} {t′ : Tables} → Became a count t′ (method.foundAnew (hunt a (t .plan)) (core (orphaned s t)) (s .origin)) → Holds s (handOver s t) (handed s count) t′
+  unfolding calls.handedOver
+  hand-holds B =
+      let b = became-of (λ x. method.foundAnew (hunt x (t .plan)) (core (orphaned s t)) (s .origin)) O B in
+      record { wide = refl; high = refl; record-is = refl; tables-are = b .is; heap = b .heap }
+
+  pub hand-long : {count : ℕ} {t′ : Tables} → Became a count t′ (method.foundAnew (hunt a (t .plan)) (core (orphaned s t)) (s .origin)) → length (t′ .parent) ≡ length (t .parent)
+  hand-long B =
+      let z = subst (λ T. method.Sized (cells s) T) (sym (hand-holds B .tables-are)) (handedOver-sized (R .sized) (calls.huntOf (graph s t) (calls.hunterTaken (session s))) (s .origin)) in
+      z .parent ∙ sym (R .sized .parent)
+
+-- ---- the whole
+
+module _ {s : Session} {t : Tables} (S : Sound s t) where
+  pub restarting : Restarting s t
+  restarting = record {
+    obeys = S .plan;
+    fits = record {
+      plan = S .plan .sized;
+      g = S .numbers .sized .g;
+      rhs = S .numbers .sized .rhs;
+      parent = S .numbers .sized .parent;
+      k1 = S .numbers .sized .k1;
+      k2 = S .numbers .sized .k2;
+      place = S .heap .tables .agree .lengthPlace;
+      list = S .heap .tables .agree .lengthList;
+    };
+    hunter-in = S .numbers .hunter-in;
+    target-in = S .numbers .target-in;
+  }
+
+  pub aiming : Aiming s
+  aiming = record { size = S .plan .size; old-in = S .numbers .last-target-in; new-in = S .numbers .target-in; km-le = omega (arith, S .numbers .km-le, S .numbers .searches-le) }
+
+  pub handing : {r : Session} → r ≡ aimedAnew s → Handing r t
+  handing e =
+      subst (λ x. Handing x t) (sym e)
+      (record {
+        obeys = S .plan;
+        new-in = S .numbers .hunter-in;
+        old-in = S .numbers .last-hunter-in;
+        goal-in = S .numbers .target-in;
+        km-le = omega (arith, S .numbers .km-le, S .numbers .searches-le, estimate-le (S .plan .size) (s .goal) (s .target) (S .numbers .last-target-in) (S .numbers .target-in));
+        sized = S .numbers .sized;
+        heap = S .heap;
+        small-g = sound-small-g S;
+        small-rhs = sound-small-rhs S;
+      })
+
+  module _ {r : Session} {t′ : Tables} where
+    pub taken-late : s .searches ≡ 1000 → Holds s (calls.freshStart (graph s t) (s .hunter) (s .target)) r t′ → Holds s (calls.takenOver (graph s t) (session s) (core t)) r t′
+    unfolding calls.takenOver
+    taken-late e = subst (λ m. Holds s m r t′) (sym (choose-yes (ℕ-discrete (s .searches) mostSearches) _ _ e))
+
+    module _ (early : s .searches ≢ 1000) where
+      pub taken-same : s .hunter ≡ s .origin → r ≡ aimedAnew s → t′ ≡ t → Holds s (calls.takenOver (graph s t) (session s) (core t)) r t′
+      unfolding calls.takenOver
+      taken-same e er et =
+          subst (λ m. Holds s m r t′) (sym (choose-no (ℕ-discrete (s .searches) mostSearches) _ _ early ∙ choose-yes (ℕ-discrete (s .hunter) (s .origin)) _ _ e))
+          (subst (λ x. Holds s (record { session = calls.targetTaken (graph s t) (session s); tables = core t }) x t′) (sym er)
+          (subst (λ x. Holds s (record { session = calls.targetTaken (graph s t) (session s); tables = core t }) (aimedAnew s) x) (sym et)
+          (record { wide = refl; high = refl; record-is = refl; tables-are = refl; heap = S .heap })))
+
+      pub taken-far : s .hunter ≢ s .origin → getD (t .rhs) (s .hunter) 0 ≡ infinite → Holds s (calls.freshStart (graph s t) (s .hunter) (s .target)) r t′
+          → Holds s (calls.takenOver (graph s t) (session s) (core t)) r t′
+      unfolding calls.takenOver
+      taken-far n e =
+          subst (λ m. Holds s m r t′)
+          (sym (choose-no (ℕ-discrete (s .searches) mostSearches) _ _ early ∙ choose-no (ℕ-discrete (s .hunter) (s .origin)) _ _ n ∙ choose-yes (ℕ-discrete (getD (t .rhs) (s .hunter) 0) infinite) _ _ e))
+
+      pub taken-new : {m : Session} → s .hunter ≢ s .origin → getD (t .rhs) (s .hunter) 0 ≢ infinite → m ≡ aimedAnew s → Holds m (handOver m t) r t′
+          → Holds s (calls.takenOver (graph s t) (session s) (core t)) r t′
+      unfolding calls.takenOver
+      taken-new n f e H =
+          let h = subst (λ x. Holds x (handOver x t) r t′) e H in
+          subst (λ m. Holds s m r t′)
+          (sym (choose-no (ℕ-discrete (s .searches) mostSearches) _ _ early ∙ choose-no (ℕ-discrete (s .hunter) (s .origin)) _ _ n ∙ choose-no (ℕ-discrete (getD (t .rhs) (s .hunter) 0) infinite) _ _ f))
+          (record { wide = h .wide; high = h .high; record-is = h .record-is; tables-are = h .tables-are; heap = h .heap })

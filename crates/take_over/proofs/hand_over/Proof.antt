@@ -1,0 +1,53 @@
+use Rattle.take_over.proofs.TakeOverLaws.{hand-aimed, hand-held, hand-cell, hand-holds, hand-long}
+use borrow.Author.Needs.{needs}
+use Rattle.take_over.proofs.hand_over.Statement.{statement}
+use Rattle.take_over.proofs.hand_over.Tie as tie
+
+slice-write-parent : tie.Need-slice-write-parent
+slice-write-parent c = search needs
+
+aim-of-requires : tie.Need-aim-of-requires
+aim-of-requires c κs = search needs
+
+spot-of-requires : tie.Need-spot-of-requires
+spot-of-requires c κs = search needs
+
+found-anew-requires : tie.Need-found-anew-requires
+found-anew-requires c κs = let R = c .before .before .before .before .before .before .before .before .before .before .before .before .before .before .before .before .pre in let O = c .before .before .before .before .before .before .before .aim-of .ensures in (hand-aimed R O, (hand-held R O, ((R .small-g, R .small-rhs), hand-cell R O (c .before .before .before .before .before .before .spot-of .ensures))))
+
+same-length : tie.Need-same-length
+same-length c = search needs
+
+same-length-2 : tie.Need-same-length-2
+same-length-2 c = hand-long (c .before .before .before .before .before .before .before .before .before .before .before .before .before .before .before .before .before .before .before .before .before .before .before .before .before .before .before .before .before .pre) (c .before .before .before .before .before .before .before .before .before .before .before .before .before .before .before .before .before .before .before .before .aim-of .ensures) (c .before .before .before .before .before .before .before .before .before .before .before .before .found-anew .ensures .0)
+
+same-length-3 : tie.Need-same-length-3
+same-length-3 c = search needs
+
+same-length-4 : tie.Need-same-length-4
+same-length-4 c = search needs
+
+same-length-5 : tie.Need-same-length-5
+same-length-5 c = search needs
+
+same-length-6 : tie.Need-same-length-6
+same-length-6 c = search needs
+
+returns : tie.Need-returns
+returns c = hand-holds (c .before .before .before .before .before .before .before .before .before .before .before .before .before .before .before .before .before .before .before .before .before .before .before .before .before .before .before .before .before .pre) (c .before .before .before .before .before .before .before .before .before .before .before .before .before .before .before .before .before .before .before .before .aim-of .ensures) (c .before .before .before .before .before .before .before .before .before .before .before .before .found-anew .ensures .0)
+
+pub hand-over-spec : {M : Type 1} → statement M
+hand-over-spec =
+    tie.close
+    (tie.spec
+    slice-write-parent
+    aim-of-requires
+    spot-of-requires
+    found-anew-requires
+    same-length
+    same-length-2
+    same-length-3
+    same-length-4
+    same-length-5
+    same-length-6
+    returns)

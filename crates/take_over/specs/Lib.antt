@@ -1,0 +1,2 @@
+-- Taking over target and hunter before a search's steps.
+pub mod TakeOver
