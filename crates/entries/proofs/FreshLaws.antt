@@ -2,8 +2,8 @@
 use mathlib.Core.Path.{_≡_, refl, sym, ap, _∙_}
 use mathlib.Core.Bool.{Bool, true, false}
 use mathlib.Core.Logic.{_⊎_, inl, inr}
-use mathlib.Core.List.{List, [], _∷_, map}
-use Prim.Native.Nat.{ℕ, zero, suc, _+_, _*_, _≤_, _<_}
+use mathlib.Core.List.{List, [], _∷_}
+use Prim.Native.Nat.{ℕ, zero, suc, _+_, _≤_, _<_}
 use native.Mathlib.Omega.{arith}
 use native.Mathlib.Decide.{ℕ-discrete}
 use lib.ListN.{length, getD, set, replicate, length-replicate, getD-replicate, length-set}
@@ -11,10 +11,9 @@ use lib.Seq.{getD-set-same, getD-set-other}
 use Rattle.method.specs.Numbers.{infinite}
 use Rattle.method.specs.Tables as method
 use Rattle.method.specs.Session.{blank, fresh}
-use Rattle.method.proofs.Readying.{blank-sized}
 use Rattle.method.proofs.Choices.{choose-no}
 use Rattle.queue.specs.Queue.{absent, isPlace, members, Heap}
-use Rattle.queue.proofs.MemberLaws.{missing, tally, tally-none, tally-less}
+use Rattle.queue.proofs.MemberLaws.{tally, tally-none, tally-less}
 use Rattle.queue.proofs.PlaceLaws.{counted}
 use Rattle.queue.proofs.QueueLaws.{empty-heap}
 use Rattle.plan.specs.Grid.{graphOf}
@@ -23,7 +22,7 @@ use Rattle.plan.specs.declared.Spot.{Spot}
 use Rattle.plan.proofs.MoveLaws as moves
 use Rattle.tables.specs.Lent.{Tables, tables, core, Fits}
 use Rattle.entries.specs.declared.Aim.{Aim}
-use Rattle.entries.specs.Aims.{area, floor, hunt, mostG, mostRhs, Aimed, Held, Small}
+use Rattle.entries.specs.Aims.{area, floor, hunt, Aimed, Small}
 use Rattle.entries.specs.Became.{Became, Entering, Entered}
 use Rattle.entries.proofs.FoundLaws.{small-set, entering}
 

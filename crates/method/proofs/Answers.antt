@@ -210,30 +210,30 @@ module _ {H : Hunt} {T : Tables} (L : Stands H) (R : Right H T) (Z : Stopped H T
 
   -- the parents lead from s to the hunter
   trail-from : (n s : ℕ) → upTo H T (rhsAt T s) ≤ n → s < H .graph .cells → rhsAt T s < infinite → keyAt H s (rhsAt T s) ≤ key H T (H .target)
-      → (l : List ℕ) × Trail H (T .parent) s l × (length l ≤ upTo H T (rhsAt T s))
+      → (l : List ℕ) × Trail H (T .parent) s l × (length l ≤ upTo H T (rhsAt T s)) × (rhsAt T (H .hunter) ≤ rhsAt T s)
   trail-from zero s h l fin kl = absurd (omega (arith, upTo-self H T s l))
   trail-from (suc n) s h l fin kl = at (λ x. trail-from n x) (ℕ-discrete s (H .hunter))
     where
       on : ((x : ℕ) → upTo H T (rhsAt T x) ≤ n → x < H .graph .cells → rhsAt T x < infinite → keyAt H x (rhsAt T x) ≤ key H T (H .target)
-          → (l : List ℕ) × Trail H (T .parent) x l × (length l ≤ upTo H T (rhsAt T x))) → s ≢ H .hunter → Parent s
-          → (l : List ℕ) × Trail H (T .parent) s l × (length l ≤ upTo H T (rhsAt T s))
+          → (l : List ℕ) × Trail H (T .parent) x l × (length l ≤ upTo H T (rhsAt T x)) × (rhsAt T (H .hunter) ≤ rhsAt T x)) → s ≢ H .hunter → Parent s
+          → (l : List ℕ) × Trail H (T .parent) s l × (length l ≤ upTo H T (rhsAt T s)) × (rhsAt T (H .hunter) ≤ rhsAt T s)
       on ih ns p =
           let up : upTo H T (rhsAt T (p .from)) < upTo H T (rhsAt T s) = upTo-less H T s (p .from) l (p .less) in
           let lt : rhsAt T (p .from) < rhsAt T s = p .less in
           let r = ih (p .from) (omega arith) (p .from-in) (omega arith) (p .key-le) in
-          (r .0 ++ (s ∷ []), link ns (p .comes) (r .1), omega (arith, length-append (r .0) (s ∷ []), r .2))
+          (r .0 ++ (s ∷ []), link ns (p .comes) (r .1), omega (arith, length-append (r .0) (s ∷ []), r .2), omega (arith, r .3))
 
       at : ((x : ℕ) → upTo H T (rhsAt T x) ≤ n → x < H .graph .cells → rhsAt T x < infinite → keyAt H x (rhsAt T x) ≤ key H T (H .target)
-          → (l : List ℕ) × Trail H (T .parent) x l × (length l ≤ upTo H T (rhsAt T x))) → Dec (s ≡ H .hunter)
-          → (l : List ℕ) × Trail H (T .parent) s l × (length l ≤ upTo H T (rhsAt T s))
-      at ih (yes e) = (H .hunter ∷ [], subst (λ x. Trail H (T .parent) x (H .hunter ∷ [])) (sym e) home, omega (arith, upTo-self H T s l))
+          → (l : List ℕ) × Trail H (T .parent) x l × (length l ≤ upTo H T (rhsAt T x)) × (rhsAt T (H .hunter) ≤ rhsAt T x)) → Dec (s ≡ H .hunter)
+          → (l : List ℕ) × Trail H (T .parent) s l × (length l ≤ upTo H T (rhsAt T s)) × (rhsAt T (H .hunter) ≤ rhsAt T s)
+      at ih (yes e) = (H .hunter ∷ [], subst (λ x. Trail H (T .parent) x (H .hunter ∷ [])) (sym e) home, omega (arith, upTo-self H T s l), omega (arith, ap (λ x. rhsAt T x) e))
       at ih (no ns) = on ih ns (parent-of s l ns fin kl)
 
-  -- rhs of the target finite: the parents lead from the target to the hunter over at most as many cells as the graph has
-  pub trail : rhsAt T (H .target) < infinite → (l : List ℕ) × Trail H (T .parent) (H .target) l × (length l ≤ H .graph .cells)
+  -- rhs of the target finite: the parents lead from the target to the hunter, whose rhs is not above, over at most as many cells as the graph has
+  pub trail : rhsAt T (H .target) < infinite → (l : List ℕ) × Trail H (T .parent) (H .target) l × (length l ≤ H .graph .cells) × (rhsAt T (H .hunter) ≤ rhsAt T (H .target))
   trail fin =
       let r = trail-from (upTo H T (rhsAt T (H .target))) (H .target) (omega arith) (L .target-in) fin (omega (arith, Z .not-over)) in
-      (r .0, r .1, omega (arith, r .2, upTo-le H T (rhsAt T (H .target))))
+      (r .0, r .1, omega (arith, r .2, upTo-le H T (rhsAt T (H .target))), r .3)
 
 trail-long : {H : Hunt} {parent : List ℕ} {s : ℕ} {l : List ℕ} → Trail H parent s l → 1 ≤ length l
 trail-long home = omega arith

@@ -29,6 +29,47 @@ pub struct Session {
     pub searches: u32,
 }
 
+// Has every table the length that the plan's size gives?
+pub fn lengths_hold(
+    width: usize,
+    height: usize,
+    plan: &[u8],
+    g: &[u32],
+    rhs: &[u32],
+    parent: &[u8],
+    k1: &[u32],
+    k2: &[u32],
+    place: &[u16],
+    list: &[u16],
+) -> bool
+    requires { ⌜ Size width height ⌝ }
+    ensures { λ r. ⌜ Decides r (Fits (height * width) (before plan g rhs parent k1 k2 place list)) ⌝ }
+{
+    let cells = height * width;
+    if plan.len() != 4 * cells {
+        return false;
+    }
+    if g.len() != cells {
+        return false;
+    }
+    if rhs.len() != cells {
+        return false;
+    }
+    if parent.len() != cells {
+        return false;
+    }
+    if k1.len() != cells {
+        return false;
+    }
+    if k2.len() != cells {
+        return false;
+    }
+    if place.len() != cells {
+        return false;
+    }
+    list.len() == cells
+}
+
 // Are the record's cells in the plan, and its numbers in their bounds?
 fn numbers_hold(s: Session) -> bool
     requires { ⌜ Size (s .width) (s .height) ⌝ }

@@ -1,5 +1,5 @@
 -- The loop's invariant: the numbers before i are v. The measure is what is left of the table.
-use Prim.Native.Nat.{_≤_, _-_}
+use Prim.Native.Nat.{_-_}
 use mathlib.Core.Path.{_≡_, refl}
 use native.Mathlib.Omega.{arith}
 use lib.ListN.{length}

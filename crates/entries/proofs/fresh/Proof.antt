@@ -1,6 +1,5 @@
 -- What the fills left are blank tables; the hunter's rhs is set and its entry set right.
 use mathlib.Core.Path.{ap, _∙_}
-use Prim.Native.Nat.{ℕ}
 use native.Mathlib.Omega.{arith}
 use lib.ListN.{length, length-replicate, length-set}
 use Rattle.plan.proofs.MoveLaws.{area}

@@ -1,0 +1,243 @@
+-- The search over the tables is the method's search.
+use mathlib.Core.Path.{_≡_, refl, sym, ap, subst, _∙_}
+use mathlib.Core.Bool.{Bool, true, false, true≢false, Bool-discrete}
+use mathlib.Core.Logic.{_≢_}
+use mathlib.Core.List.{List, [], _∷_, append-nil}
+use Prim.Native.Nat.{ℕ, suc, _+_, _-_, _*_, _≤_, _<_}
+use native.Mathlib.Omega.{arith}
+use native.Mathlib.Decide.{ℕ-discrete}
+use lib.ListN.{getD, length, set, drop}
+use Rattle.method.specs.Numbers.{infinite}
+use Rattle.method.specs.Graph.{Graph, GraphLaws, Hunt}
+use Rattle.method.specs.Tables as method
+use Rattle.method.specs.Loop.{Ran, run}
+use Rattle.method.specs.Session as calls
+use Rattle.method.proofs.Choices.{choose-yes, choose-no}
+use Rattle.method.proofs.Bounds.{During, most}
+use Rattle.method.proofs.Running.{run-sized}
+use Rattle.method.proofs.Facts.{rhs-le}
+use Rattle.method.proofs.Readying.{takenOver-sized, ready}
+use Rattle.method.proofs.Answers.{Stopped, Trail, trail, trail-way}
+use Rattle.method.proofs.Searching.{huntTaken, boundTaken, runTaken, during-start, went-to, ended}
+use Rattle.plan.proofs.GridLaws.{graph-laws}
+use Rattle.plan.proofs.MoveLaws.{area}
+use Rattle.tables.specs.declared.Session.{Session}
+use Rattle.tables.specs.Lent.{Tables, tables, cells, floor, graph, session, core, Fits}
+use Rattle.tables.specs.Sound.{Sound}
+use Rattle.entries.specs.declared.Aim.{Aim}
+use Rattle.entries.specs.Aims as aims
+use Rattle.entries.specs.Aims.{aimOf, hunt, Aimed, Held, mostG, mostKm}
+use Rattle.entries.specs.Became.{Became}
+use Rattle.steps.specs.Loop.{Started, Finished}
+use Rattle.take_over.specs.TakeOver.{AimOf, Holds}
+use Rattle.way.specs.Way.{Leads, Leading, Shows}
+use Rattle.way.proofs.WayLaws.{trail-leads}
+use Rattle.search.specs.declared.Answer.{Answer}
+use Rattle.search.specs.declared.Answer.the-variants.{Caught, NoWay, Way, Refused}
+use Rattle.search.specs.declared.Outcome.{Outcome}
+use Rattle.search.specs.Answer.{answerOf, cellsOf}
+use Rattle.search.specs.Promise.{outcome, written, Answering, Answers, cut-off, none-leads, way-shown, Searched}
+
+-- ---- a catch
+
+-- the first place of the list holds the cell
+pub first-set : (way : List ℕ) (x : ℕ) → 1 ≤ length way → set way 0 x ≡ written (x ∷ []) way
+first-set [] x l = absurd (omega arith)
+first-set (y ∷ way) x l = refl
+
+module _ {s : Session} {t : Tables} (S : Sound s t) (e : s .hunter ≡ s .target) where
+  caught-is : outcome s t ≡ record { answer = calls.caught (s .hunter); session = session s; tables = core t; steps = [] }
+  unfolding calls.search
+  caught-is = choose-yes (ℕ-discrete (s .hunter) (s .target)) _ _ e
+
+  pub searched-caught : {way way′ : List ℕ} → cells s ≤ length way → way′ ≡ set way 0 (s .hunter) → Searched s t way (record { session = s; answer = Caught (s .hunter) }) t way′
+  searched-caught {way} long ew = record {
+    answer = sym (ap (λ o. answerOf (o .answer)) caught-is);
+    wide = refl;
+    high = refl;
+    record-is = sym (ap (λ o. o .session) caught-is);
+    plan = refl;
+    tables-are = sym (ap (λ o. o .tables) caught-is);
+    heap = S .heap;
+    shown = ew ∙ first-set way (s .hunter) (omega (arith, S .numbers .hunter-in)) ∙ sym (ap (λ o. written (cellsOf (o .answer)) way) caught-is);
+    caught = λ _. (refl, refl);
+  }
+
+-- ---- the search proper
+
+-- What the search goes by after the take-over, in the method's session σ.
+abbrev aimBy : ℕ → ℕ → calls.Session → ℕ → ℕ → Aim
+aimBy width height σ row column = record { width = width; height = height; hunter = σ .lastHunter; target = σ .lastTarget; row = row; column = column; km = σ .km }
+
+-- The record that a search leaves: so many cells queued, so many searches.
+abbrev pub leftBy : Session → ℕ → ℕ → Session
+leftBy r count searches = record { width = r .width; height = r .height; hunter = r .hunter; target = r .target; origin = r .origin; goal = r .goal; km = r .km; count = count; searches = searches }
+
+module _ {s : Session} {t : Tables} (S : Sound s t) where
+  laws : GraphLaws (graph s t)
+  laws = graph-laws (floor s (t .plan)) (S .plan .size)
+
+  abbrev taken : calls.State
+  taken = calls.takenOver (graph s t) (session s) (core t)
+
+  abbrev ran : Ran
+  ran = runTaken (graph s t) (session s) (core t) (3 * cells s)
+
+  module _ {r : Session} {a : Aim} {g₁ rhs₁ parent₁ k1₁ k2₁ place₁ list₁ : List ℕ}
+      (H : Holds s (calls.takenOver (graph s t) (session s) (core t)) r (tables (t .plan) g₁ rhs₁ parent₁ k1₁ k2₁ place₁ list₁)) (O : AimOf r a) where
+    abbrev t₁ : Tables
+    t₁ = tables (t .plan) g₁ rhs₁ parent₁ k1₁ k2₁ place₁ list₁
+
+    abbrev b : Aim
+    b = aimBy (s .width) (s .height) (calls.takenOver (graph s t) (session s) (core t) .session) (a .row) (a .column)
+
+    pub aim-is : a ≡ aimBy (s .width) (s .height) (calls.takenOver (graph s t) (session s) (core t) .session) (a .row) (a .column)
+    aim-is =
+        O .is ∙ ap (λ w. aimBy w (r .height) (session r) (a .row) (a .column)) (H .wide) ∙ ap (λ h. aimBy (s .width) h (session r) (a .row) (a .column)) (H .high)
+        ∙ ap (λ σ. aimBy (s .width) (s .height) σ (a .row) (a .column)) (H .record-is)
+
+    pub run-aimed : Aimed a (t .plan)
+    run-aimed =
+        let R = ready laws (S .numbers) in
+        subst (λ x. Aimed x (t .plan)) (sym aim-is)
+        (record {
+          obeys = S .plan;
+          hunter-in = omega (arith, R .hunter, S .numbers .hunter-in);
+          target-in = omega (arith, R .target, S .numbers .target-in);
+          target-at = stands;
+          km-le = omega (arith, R .km-le, R .searches-lt);
+        })
+      where
+        stands : Rattle.plan.specs.Cells.Stands (s .width) (taken .session .lastTarget) (a .row) (a .column)
+        stands = subst (λ w. Rattle.plan.specs.Cells.Stands w (taken .session .lastTarget) (a .row) (a .column)) (H .wide)
+            (subst (λ x. Rattle.plan.specs.Cells.Stands (r .width) x (a .row) (a .column)) (ap (λ σ. σ .lastTarget) (H .record-is)) (O .target-at))
+
+    pub run-started : Started a (r .count) (tables (t .plan) g₁ rhs₁ parent₁ k1₁ k2₁ place₁ list₁)
+    run-started =
+        let R = ready laws (S .numbers) in
+        subst (λ x. Started x (r .count) t₁) (sym aim-is)
+        (record {
+          held = record { sized = subst (λ T. method.Sized (cells s) T) (sym (H .tables-are)) (takenOver-sized (graph s t) (session s) (S .numbers .sized)); heap = H .heap };
+          bound = boundTaken (graph s t) (session s) (core t);
+          during = subst (λ T. During (huntTaken (graph s t) (session s) (core t)) (boundTaken (graph s t) (session s) (core t)) T) (sym (H .tables-are)) (during-start laws (S .numbers));
+          small = omega (arith, R .searches-lt, area (S .plan .size));
+        })
+
+    pub few-searches : r .searches < 1000
+    few-searches = omega (arith, ap (λ σ. σ .searches) (H .record-is), ready laws (S .numbers) .searches-lt)
+
+    -- ---- after the last step
+
+    module _ {n steps : ℕ} {over : Bool} {g₂ rhs₂ parent₂ k1₂ k2₂ place₂ list₂ : List ℕ}
+        (F : Finished a (tables (t .plan) g₁ rhs₁ parent₁ k1₁ k2₁ place₁ list₁) (tables (t .plan) g₂ rhs₂ parent₂ k1₂ k2₂ place₂ list₂) n steps over) where
+      abbrev t₂ : Tables
+      t₂ = tables (t .plan) g₂ rhs₂ parent₂ k1₂ k2₂ place₂ list₂
+
+      finished : Finished b t₁ t₂ n steps over
+      finished = subst (λ x. Finished x t₁ t₂ n steps over) aim-is F
+
+      ran-is : core t₂ ≡ ran .tables
+      ran-is = finished .tables .is ∙ ap (λ T. run (huntTaken (graph s t) (session s) (core t)) (3 * cells s) T .tables) (H .tables-are)
+
+      steps-are : steps ≡ length (ran .steps)
+      steps-are = finished .steps-are ∙ ap (λ T. length (run (huntTaken (graph s t) (session s) (core t)) (3 * cells s) T .steps)) (H .tables-are)
+
+      over-is : over ≡ true
+      over-is = finished .ended-is ∙ ap (λ T. run (huntTaken (graph s t) (session s) (core t)) (3 * cells s) T .ended) (H .tables-are) ∙ ended laws (S .numbers)
+
+      during : During (huntTaken (graph s t) (session s) (core t)) (boundTaken (graph s t) (session s) (core t)) (core t₂)
+      during = subst (λ T. During (huntTaken (graph s t) (session s) (core t)) (boundTaken (graph s t) (session s) (core t)) T) (sym ran-is) (went-to laws (S .numbers) (3 * cells s) .during)
+
+      stopped : Stopped (huntTaken (graph s t) (session s) (core t)) (core t₂)
+      stopped = subst (λ T. Stopped (huntTaken (graph s t) (session s) (core t)) T) (sym ran-is) (went-to laws (S .numbers) (3 * cells s) .stopped (ended laws (S .numbers)))
+
+      -- the trail of parents, where rhs of the target is finite
+      led : getD rhs₂ (b .target) 0 ≢ infinite
+          → (l : List ℕ) × Trail (huntTaken (graph s t) (session s) (core t)) parent₂ (b .target) l × (length l ≤ cells s) × (getD rhs₂ (b .hunter) 0 ≤ getD rhs₂ (b .target) 0)
+      led f =
+          trail (during .stands) (during .right) stopped
+          (omega (arith, f, rhs-le (huntTaken (graph s t) (session s) (core t)) (core t₂) (during .right) (b .target) (during .stands .target-in)))
+
+      leads : {l : List ℕ} → Trail (huntTaken (graph s t) (session s) (core t)) parent₂ (b .target) l → Leads b parent₂ (b .target) l
+      leads = trail-leads (t .plan) (S .plan .size)
+
+      pub answering : {way : List ℕ} → cells s ≤ length way → Answering a rhs₂ parent₂ way
+      answering {way} long =
+          subst (λ x. Answering x rhs₂ parent₂ way) (sym aim-is)
+          (record {
+            size = S .plan .size;
+            hunter-in = during .stands .hunter-in;
+            target-in = during .stands .target-in;
+            long = during .sized .rhs;
+            led = λ f. let q = led f in record {
+              followed = record {
+                size = S .plan .size;
+                target-in = during .stands .target-in;
+                long-parent = during .sized .parent;
+                cells = q .0;
+                leads = leads (q .1);
+                few = q .2;
+              };
+              room = long;
+            };
+            not-above = λ f. led f .3;
+          })
+
+      pub long-after : Held (aimBy (s .width) (s .height) (calls.takenOver (graph s t) (session s) (core t) .session) (a .row) (a .column)) n (tables (t .plan) g₂ rhs₂ parent₂ k1₂ k2₂ place₂ list₂)
+      long-after = record { sized = during .sized; heap = finished .tables .heap }
+
+      -- what the method answers
+      module _ (apart : s .hunter ≢ s .target) where
+        search-is : outcome s t ≡ calls.searchedFrom (graph s t) taken
+        unfolding calls.search
+        search-is = choose-no (ℕ-discrete (s .hunter) (s .target)) _ _ apart
+
+        answer-none : getD rhs₂ (b .target) 0 ≡ infinite → outcome s t .answer ≡ calls.none-leads steps
+        unfolding calls.answerOf
+        answer-none i =
+            ap (λ o. o .answer) search-is ∙ choose-yes (Bool-discrete (ran .ended) true) _ _ (ended laws (S .numbers))
+            ∙ choose-yes (ℕ-discrete (method.rhsAt (ran .tables) (b .target)) infinite) _ _ (ap (λ T. method.rhsAt T (b .target)) (sym ran-is) ∙ i) ∙ ap calls.none-leads (sym steps-are)
+
+        answer-way : (f : getD rhs₂ (b .target) 0 ≢ infinite) → outcome s t .answer ≡ calls.way (getD rhs₂ (b .target) 0 - getD rhs₂ (b .hunter) 0) steps (led f .0)
+        unfolding calls.answerOf
+        answer-way f =
+            ap (λ o. o .answer) search-is ∙ choose-yes (Bool-discrete (ran .ended) true) _ _ (ended laws (S .numbers))
+            ∙ choose-no (ℕ-discrete (method.rhsAt (ran .tables) (b .target)) infinite) _ _ (λ e. f (ap (λ T. method.rhsAt T (b .target)) ran-is ∙ e))
+            ∙ ap (λ T. calls.way (method.rhsAt T (b .target) - method.rhsAt T (b .hunter)) (length (ran .steps)) (calls.wayFrom (huntTaken (graph s t) (session s) (core t)) (T .parent) (cells s) (b .target) [])) (sym ran-is)
+            ∙ ap (λ k. calls.way (getD rhs₂ (b .target) 0 - getD rhs₂ (b .hunter) 0) k (calls.wayFrom (huntTaken (graph s t) (session s) (core t)) parent₂ (cells s) (b .target) [])) (sym steps-are)
+            ∙ ap (λ l. calls.way (getD rhs₂ (b .target) 0 - getD rhs₂ (b .hunter) 0) steps l)
+            (let q = led f in trail-way laws (q .1) (cells s) [] (omega (arith, q .2)) ∙ append-nil (q .0))
+
+        record-is : session (leftBy r n (r .searches + 1)) ≡ outcome s t .session
+        record-is =
+            ap (λ k. session (leftBy r n k)) (next (r .searches)) ∙ ap calls.counted (H .record-is) ∙ ap (λ o. o .session) (sym search-is)
+          where
+            next : (k : ℕ) → k + 1 ≡ suc k
+            next k = omega arith
+
+        by-answer : {way way′ : List ℕ} {x : Answer} → x ≡ answerOf (outcome s t .answer) → way′ ≡ written (cellsOf (outcome s t .answer)) way
+            → Searched s t way (record { session = leftBy r n (r .searches + 1); answer = x }) t₂ way′
+        by-answer ea ew = record {
+          answer = ea;
+          wide = H .wide;
+          high = H .high;
+          record-is = record-is;
+          plan = refl;
+          tables-are = ran-is ∙ ap (λ o. o .tables) (sym search-is);
+          heap = finished .tables .heap;
+          shown = ew;
+          caught = λ e. absurd (apart e);
+        }
+
+        pub searched : {way way′ : List ℕ} {x : Answer} → Answers a over steps rhs₂ parent₂ way x way′
+            → Searched s t way (record { session = leftBy r n (r .searches + 1); answer = x }) (tables (t .plan) g₂ rhs₂ parent₂ k1₂ k2₂ place₂ list₂) way′
+        searched {way} {way′} {x} A = at (subst (λ y. Answers y over steps rhs₂ parent₂ way x way′) aim-is A)
+          where
+            at : {x : Answer} {way′ : List ℕ} → Answers b over steps rhs₂ parent₂ way x way′ → Searched s t way (record { session = leftBy r n (r .searches + 1); answer = x }) t₂ way′
+            at (cut-off e) = let z : true ≡ false = sym over-is ∙ e in absurd (true≢false z)
+            at (none-leads _ i) = by-answer (sym (ap answerOf (answer-none i))) (sym (ap (λ y. written (cellsOf y) way) (answer-none i)))
+            at (way-shown {k} _ f w) =
+                let q = led f in
+                let v = w (q .0) (leads (q .1)) in
+                by-answer (ap (λ m. Way (getD rhs₂ (b .target) 0 - getD rhs₂ (b .hunter) 0) steps m) (v .0) ∙ sym (ap answerOf (answer-way f)))
+                (v .1 ∙ sym (ap (λ y. written (cellsOf y) way) (answer-way f)))

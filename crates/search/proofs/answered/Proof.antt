@@ -1,0 +1,52 @@
+use native.Mathlib.Omega.{arith}
+use borrow.Author.Tests.{not-true, not-false}
+use Rattle.plan.proofs.MoveLaws.{area}
+use Rattle.search.specs.Promise.{cut-off, none-leads, way-shown}
+use borrow.Author.Needs.{needs}
+use Rattle.search.proofs.answered.Statement.{statement}
+use Rattle.search.proofs.answered.Tie as tie
+
+returns : tie.Need-returns
+returns c = cut-off (not-true _ (c .if1 .taken))
+
+mul-far : tie.Need-mul-far
+mul-far c = search needs
+
+shared-slice-read-far : tie.Need-shared-slice-read-far
+shared-slice-read-far c = search needs
+
+returns-2 : tie.Need-returns-2
+returns-2 c = none-leads (not-false _ (c .before .before .if1 .left)) (c .if2 .taken)
+
+mul-near : tie.Need-mul-near
+mul-near c = search needs
+
+shared-slice-read-near : tie.Need-shared-slice-read-near
+shared-slice-read-near c = search needs
+
+write-way-requires : tie.Need-write-way-requires
+write-way-requires c κs = c .before .before .before .before .before .before .before .before .before .pre .led (c .before .before .if2 .left)
+
+sub-t14 : tie.Need-sub-t14
+sub-t14 c = c .before .before .before .before .before .before .before .before .before .before .before .before .pre .not-above (c .before .before .before .before .before .if2 .left)
+
+same-length : tie.Need-same-length
+same-length c = search needs
+
+returns-3 : tie.Need-returns-3
+returns-3 c = way-shown (not-false _ (c .before .before .before .before .before .before .before .if1 .left)) (c .before .before .before .before .before .if2 .left) (c .before .before .write-way .ensures)
+
+pub answered-spec : {M : Type 1} → statement M
+answered-spec =
+    tie.close
+    (tie.spec
+    returns
+    mul-far
+    shared-slice-read-far
+    returns-2
+    mul-near
+    shared-slice-read-near
+    write-way-requires
+    sub-t14
+    same-length
+    returns-3)

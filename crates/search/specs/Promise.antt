@@ -1,0 +1,76 @@
+-- What a search promises: its answer, the record, every table and the way list, for every input.
+use mathlib.Core.Path.{_≡_}
+use mathlib.Core.Bool.{Bool, true, false}
+use mathlib.Core.Logic.{_≢_}
+use mathlib.Core.List.{List, _++_}
+use Prim.Native.Nat.{ℕ, _-_, _≤_, _<_}
+use lib.ListN.{getD, length, drop}
+use Rattle.method.specs.Numbers.{infinite}
+use Rattle.method.specs.Session as method
+use Rattle.queue.specs.Queue.{Heap}
+use Rattle.plan.specs.Cells.{Size}
+use Rattle.tables.specs.declared.Session.{Session}
+use Rattle.tables.specs.Lent.{Tables, cells, graph, session, core, Fits}
+use Rattle.tables.specs.Sound.{Sound}
+use Rattle.entries.specs.declared.Aim.{Aim}
+use Rattle.entries.specs.Aims.{area}
+use Rattle.session.specs.Refusals.{Ruled, Passed}
+use Rattle.way.specs.Way.{Leading, Shows}
+use Rattle.search.specs.declared.Answer.{Answer}
+use Rattle.search.specs.declared.Answer.the-variants.{NoWay, Way, Refused}
+use Rattle.search.specs.declared.Outcome.{Outcome}
+use Rattle.search.specs.Answer.{answerOf, cellsOf}
+
+-- "width or height not 1 to 64"; "a table is not of its length"; "tables not sound"; "way list shorter than N".
+abbrev pub SearchRules : Session → Tables → List ℕ → ℕ → Type 0
+SearchRules s t way =
+    Ruled (Size (s .width) (s .height)) 1
+    (Ruled (Fits (cells s) t) 2
+    (Ruled (Sound s t) 6
+    (Ruled (cells s ≤ length way) 7
+    Passed)))
+
+-- The method's search of these tables: "One search" of document 01.
+abbrev pub outcome : Session → Tables → method.Outcome
+outcome s t = method.search (graph s t) (session s) (core t)
+
+-- The cells stand first in the way list; "the rest of the list keeps its contents, and all of it where no cells are shown".
+abbrev pub written : List ℕ → List ℕ → List ℕ
+written shown way = shown ++ drop (length shown) way
+
+-- A search not refused: answer, record and tables are the method's, with a true heap; the plan and the size are as they were. A catch changes no table.
+pub record Searched (s : Session) (t : Tables) (way : List ℕ) (r : Outcome) (t′ : Tables) (way′ : List ℕ) : Type 0 where
+  pub answer : r .answer ≡ answerOf (outcome s t .answer)
+  pub wide : r .session .width ≡ s .width
+  pub high : r .session .height ≡ s .height
+  pub record-is : session (r .session) ≡ outcome s t .session
+  pub plan : t′ .plan ≡ t .plan
+  pub tables-are : core t′ ≡ outcome s t .tables
+  pub heap : Heap (s .width) (cells s) (r .session .count) (t′ .k1) (t′ .k2) (t′ .place) (t′ .list)
+  pub shown : way′ ≡ written (cellsOf (outcome s t .answer)) way
+  pub caught : s .hunter ≡ s .target → (r .session ≡ s) × (t′ ≡ t)
+
+-- A refused search returns the record as it came and changes no table.
+pub record Searches (s : Session) (t : Tables) (way : List ℕ) (r : Outcome) (t′ : Tables) (way′ : List ℕ) : Type 0 where
+  pub number : ℕ
+  pub rules : SearchRules s t way number
+  pub refused : number ≢ 0 → (r .answer ≡ Refused number) × (r .session ≡ s) × (t′ ≡ t) × (way′ ≡ way)
+  pub done : number ≡ 0 → Searched s t way r t′ way′
+
+-- ---- inside the call
+
+-- The answer can be given: where rhs of the target is finite, the parents lead from it to the hunter, whose rhs is not above.
+pub record Answering (a : Aim) (rhs parent way : List ℕ) : Type 0 where
+  pub size : Size (a .width) (a .height)
+  pub hunter-in : a .hunter < area a
+  pub target-in : a .target < area a
+  pub long : length rhs ≡ area a
+  pub led : getD rhs (a .target) 0 ≢ infinite → Leading a parent way
+  pub not-above : getD rhs (a .target) 0 ≢ infinite → getD rhs (a .hunter) 0 ≤ getD rhs (a .target) 0
+
+-- The answer given, and the way list after it.
+pub data Answers (a : Aim) (ended : Bool) (steps : ℕ) (rhs parent way : List ℕ) : Answer → List ℕ → Type 0 where
+  cut-off : ended ≡ false → Answers a ended steps rhs parent way (Refused 9) way
+  none-leads : ended ≡ true → getD rhs (a .target) 0 ≡ infinite → Answers a ended steps rhs parent way (NoWay steps) way
+  way-shown : {k : ℕ} {way′ : List ℕ} → ended ≡ true → getD rhs (a .target) 0 ≢ infinite → Shows a parent way k way′
+      → Answers a ended steps rhs parent way (Way (getD rhs (a .target) 0 - getD rhs (a .hunter) 0) steps k) way′

@@ -1,0 +1,134 @@
+// One search: the refusals, the take-over, the steps, and the answer with its way.
+use entries;
+use entries::Aim;
+use plan;
+use steps;
+use tables;
+use tables::Session;
+use take_over;
+use way;
+ghost use Prim.Native.Nat.{_≤_};
+ghost use lib.ListN.{length};
+ghost use Rattle.tables.specs.Lent.{given, before, after, cells};
+ghost use Rattle.tables.specs.Sound.{Sound};
+ghost use Rattle.search.specs.Promise.{SearchRules, Answering, Answers, Searched, Searches};
+
+// Caught at a cell; no way, after so many steps; a way: its cost, the steps, the number of its cells; or refused with document 01's number.
+pub enum Answer {
+    Caught(usize),
+    NoWay(usize),
+    Way(u32, usize, usize),
+    Refused(u8),
+}
+
+// What a search returns: the record as it leaves it, and the answer.
+pub struct Outcome {
+    pub session: Session,
+    pub answer: Answer,
+}
+
+// The number of the first rule that a search breaks before its steps, 0 if none.
+fn refusal(
+    s: Session,
+    plan: &[u8],
+    g: &[u32],
+    rhs: &[u32],
+    parent: &[u8],
+    k1: &[u32],
+    k2: &[u32],
+    place: &[u16],
+    list: &[u16],
+    way: &[u16],
+) -> u8
+    ensures { λ r. ⌜ SearchRules s (before plan g rhs parent k1 k2 place list) (now (way .entry)) r ⌝ }
+{
+    if !plan::is_size(s.width, s.height) {
+        return 1;
+    }
+    if !tables::lengths_hold(s.width, s.height, plan, g, rhs, parent, k1, k2, place, list) {
+        return 2;
+    }
+    if !tables::is_sound(s, plan, g, rhs, parent, k1, k2, place, list) {
+        return 6;
+    }
+    if way.len() < s.height * s.width {
+        return 7;
+    }
+    0
+}
+
+// The answer after the last step: cut off, none, or the way, which is written.
+fn answered(a: Aim, ran: steps::Ran, rhs: &[u32], parent: &[u8], way: &mut [u16]) -> Answer
+    requires { ⌜ Answering a (now rhs) (now parent) (now way) ⌝ }
+    ensures { λ r. ⌜ Answers a (ran .ended) (ran .steps) (now (rhs .entry)) (now (parent .entry)) (now (way .entry)) r (now (way .exit)) ⌝ }
+{
+    if !ran.ended {
+        return Answer::Refused(9);
+    }
+    let t = a.target;
+    let far = rhs[t];
+    if far == entries::INFINITE {
+        return Answer::NoWay(ran.steps);
+    }
+    let h = a.hunter;
+    let near = rhs[h];
+    let shown = way::write_way(a, parent, way);
+    Answer::Way(far - near, ran.steps, shown)
+}
+
+// A search over sound tables.
+fn seek(
+    s: Session,
+    plan: &[u8],
+    g: &mut [u32],
+    rhs: &mut [u32],
+    parent: &mut [u8],
+    k1: &mut [u32],
+    k2: &mut [u32],
+    place: &mut [u16],
+    list: &mut [u16],
+    way: &mut [u16],
+) -> Outcome
+    requires { ⌜ Sound s (given plan g rhs parent k1 k2 place list) × (cells s ≤ length (now way)) ⌝ }
+    ensures { λ r. ⌜ Searched s (before plan g rhs parent k1 k2 place list) (now (way .entry)) r (after plan g rhs parent k1 k2 place list) (now (way .exit)) ⌝ }
+{
+    if s.hunter == s.target {
+        way[0] = s.hunter as u16;
+        return Outcome {
+            session: s,
+            answer: Answer::Caught(s.hunter),
+        };
+    }
+    let mut t = take_over::take_over(s, plan, g, rhs, parent, k1, k2, place, list);
+    let a = take_over::aim_of(t);
+    let ran = steps::run(a, plan, g, rhs, parent, k1, k2, place, list, t.count);
+    t.count = ran.count;
+    t.searches += 1;
+    let answer = answered(a, ran, rhs, parent, way);
+    Outcome { session: t, answer }
+}
+
+// One search, for any record and any content of the lent tables.
+pub fn search(
+    s: Session,
+    plan: &[u8],
+    g: &mut [u32],
+    rhs: &mut [u32],
+    parent: &mut [u8],
+    k1: &mut [u32],
+    k2: &mut [u32],
+    place: &mut [u16],
+    list: &mut [u16],
+    way: &mut [u16],
+) -> Outcome
+    ensures { λ r. ⌜ Searches s (before plan g rhs parent k1 k2 place list) (now (way .entry)) r (after plan g rhs parent k1 k2 place list) (now (way .exit)) ⌝ }
+{
+    let number = refusal(s, plan, g, rhs, parent, k1, k2, place, list, way);
+    if number != 0 {
+        return Outcome {
+            session: s,
+            answer: Answer::Refused(number),
+        };
+    }
+    seek(s, plan, g, rhs, parent, k1, k2, place, list, way)
+}

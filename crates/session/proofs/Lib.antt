@@ -1,0 +1,4 @@
+pub mod RefusalLaws
+pub mod EffectLaws
+pub mod OpenLaws
+pub mod Theorems

@@ -1,0 +1,92 @@
+-- The rules of each call give one number; number 0 gives every rule, and where every rule holds the number is 0.
+use mathlib.Core.Path.{_≡_, refl, sym, ap}
+use mathlib.Core.Logic.{_≢_}
+use Prim.Native.Nat.{ℕ, zero, suc, _*_, _<_}
+use native.Mathlib.Omega.{arith}
+use Rattle.plan.specs.Cells.{Size}
+use Rattle.plan.specs.Costs.{planOf, Obeys}
+use Rattle.tables.specs.declared.Session.{Session}
+use Rattle.tables.specs.Lent.{Tables, cells, Fits}
+use Rattle.session.specs.declared.Answer.the-variants.{Done, Refused}
+use Rattle.session.specs.Refusals.{Ruled, fails, holds, Passed, passed, answered, PlaceRules, OpenRules, ChangeRules}
+use Rattle.session.specs.Effects.{Workable}
+
+-- ---- answers
+
+pub answer-refused : (n : ℕ) → n ≢ 0 → Refused n ≡ answered n
+answer-refused zero h = absurd (h refl)
+answer-refused (suc n) h = refl
+
+pub answer-done : (n : ℕ) → n ≡ 0 → Done ≡ answered n
+answer-done n e = sym (ap answered e)
+
+-- ---- one number
+
+pub passed-one : (k l : ℕ) → Passed k → Passed l → k ≡ l
+passed-one k l passed passed = refl
+
+pub ruled-one : {P : Type 0} {n : ℕ} {rest : ℕ → Type 0} → ((k l : ℕ) → rest k → rest l → k ≡ l) → (k l : ℕ) → Ruled P n rest k → Ruled P n rest l → k ≡ l
+ruled-one one k l (fails a) (fails b) = refl
+ruled-one one k l (fails a) (holds p r) = absurd (a p)
+ruled-one one k l (holds p r) (fails b) = absurd (b p)
+ruled-one one k l (holds p r) (holds q s) = one k l r s
+
+pub place-number : (s : Session) {cell k l : ℕ} → PlaceRules s cell k → PlaceRules s cell l → k ≡ l
+place-number s {k = k} {l = l} = ruled-one (ruled-one passed-one) k l
+
+pub open-number : {width height hunter target : ℕ} {t : Tables} {k l : ℕ} → OpenRules width height hunter target t k → OpenRules width height hunter target t l → k ≡ l
+open-number {k = k} {l = l} = ruled-one (ruled-one (ruled-one (ruled-one (ruled-one passed-one)))) k l
+
+pub change-number : {s : Session} {t : Tables} {u d cost k l : ℕ} → ChangeRules s t u d cost k → ChangeRules s t u d cost l → k ≡ l
+change-number {k = k} {l = l} = ruled-one (ruled-one (ruled-one (ruled-one (ruled-one (ruled-one passed-one))))) k l
+
+-- ---- number 0
+
+pub granted : {P : Type 0} {n : ℕ} {rest : ℕ → Type 0} {k : ℕ} → Ruled P (suc n) rest k → k ≡ 0 → P × rest k
+granted (fails a) e = absurd (omega arith)
+granted (holds p r) e = (p, r)
+
+pub place-granted : (s : Session) {cell k : ℕ} → PlaceRules s cell k → k ≡ 0 → Size (s .width) (s .height) × (cell < cells s)
+place-granted s r e = let a = granted r e in (a .0, granted (a .1) e .0)
+
+-- What an open that no rule refuses has.
+pub record Openable (width height hunter target : ℕ) (t : Tables) : Type 0 where
+  pub fits : Fits (height * width) t
+  pub hunter-in : hunter < height * width
+  pub target-in : target < height * width
+  pub obeys : Obeys (planOf width height (t .plan))
+
+pub open-granted : {width height hunter target : ℕ} {t : Tables} {k : ℕ} → OpenRules width height hunter target t k → k ≡ 0 → Openable width height hunter target t
+open-granted r e =
+    let a = granted r e in
+    let b = granted (a .1) e in
+    let c = granted (b .1) e in
+    let d = granted (c .1) e in
+    record { fits = b .0; hunter-in = c .0 .0; target-in = c .0 .1; obeys = record { size = a .0; sized = b .0 .plan; bytes = granted (d .1) e .0; edges = d .0 } }
+
+pub change-granted : {s : Session} {t : Tables} {u d cost k : ℕ} → ChangeRules s t u d cost k → k ≡ 0 → Workable s t u d cost
+change-granted r e =
+    let a = granted r e in
+    let b = granted (a .1) e in
+    let c = granted (b .1) e in
+    let f = granted (c .1) e in
+    let g = granted (f .1) e in
+    record { sound = c .0; cell-in = f .0; direction = g .0 .0; stays-in = g .0 .1; byte = granted (g .1) e .0 }
+
+-- ---- every rule holds
+
+pub passed-zero : {k : ℕ} → Passed k → k ≡ 0
+passed-zero passed = refl
+
+pub onward : {P : Type 0} {n : ℕ} {rest : ℕ → Type 0} {k : ℕ} → P → Ruled P n rest k → rest k
+onward p (fails a) = absurd (a p)
+onward p (holds q r) = r
+
+pub place-passes : (s : Session) {cell k : ℕ} → PlaceRules s cell k → Size (s .width) (s .height) → cell < cells s → k ≡ 0
+place-passes s r z l = passed-zero (onward l (onward z r))
+
+pub open-passes : {width height hunter target : ℕ} {t : Tables} {k : ℕ} → OpenRules width height hunter target t k → Openable width height hunter target t → k ≡ 0
+open-passes r o = passed-zero (onward (o .obeys .bytes) (onward (o .obeys .edges) (onward (o .hunter-in, o .target-in) (onward (o .fits) (onward (o .obeys .size) r)))))
+
+pub change-passes : {s : Session} {t : Tables} {u d cost k : ℕ} → ChangeRules s t u d cost k → Fits (cells s) t → Workable s t u d cost → k ≡ 0
+change-passes r f w = passed-zero (onward (w .byte) (onward (w .direction, w .stays-in) (onward (w .cell-in) (onward (w .sound) (onward f (onward (w .sound .plan .size) r))))))

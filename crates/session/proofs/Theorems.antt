@@ -1,0 +1,289 @@
+-- What the calls' statements settle: two results that one allows are equal, the order inside the heap apart; a call that no rule refuses is done; sound tables stay sound.
+use mathlib.Core.Path.{_≡_, refl, sym, ap, subst, _∙_}
+use mathlib.Core.Logic.{⊎-elim, _≢_}
+use mathlib.Core.Bool.{Bool, false}
+use mathlib.Core.List.{List}
+use Prim.Native.Nat.{ℕ, zero, suc, _+_, _*_, _≤_, _<_}
+use native.Mathlib.Omega.{arith}
+use native.Mathlib.Decide.{ℕ-discrete, decLt}
+use lib.ListN.{getD, set, List·getD-eq-default}
+use lib.Seq.{ext-getD, set-getD}
+use Rattle.method.specs.Tables as method
+use Rattle.method.specs.Session.{opened}
+use Rattle.method.specs.Sound as method-sound
+use Rattle.method.proofs.Theorems as method-theorems
+use Rattle.queue.specs.Queue.{absent, members, Heap}
+use Rattle.queue.proofs.MemberLaws.{missing, is-absent, member-at, tally}
+use Rattle.queue.proofs.PlaceLaws.{counted as tallied, place-used}
+use Rattle.plan.specs.Cells.{Size}
+use Rattle.plan.specs.Costs.{planOf, Obeys}
+use Rattle.plan.specs.Grid.{graphOf}
+use Rattle.plan.proofs.CellLaws.{enters}
+use Rattle.plan.proofs.GridLaws.{graph-laws}
+use Rattle.plan.proofs.ChangeLaws.{changed-obeys, changed-altered}
+use Rattle.tables.specs.declared.Session.{Session}
+use Rattle.tables.specs.Lent.{Tables, tables, cells, floor, graph, session, core, Fits}
+use Rattle.tables.specs.Sound.{Sound}
+use Rattle.session.specs.declared.Answer.{Answer}
+use Rattle.session.specs.declared.Answer.the-variants.{Done}
+use Rattle.session.specs.declared.Reply.{Reply}
+use Rattle.session.specs.Refusals.{answered}
+use Rattle.session.specs.Promises.{hunterAt, targetAt, counted, begun, nothing, Places, Opened, Opens, Touches, withPlan, replanned, enteredCell, backCode, oldCost, WorkedIn, Changes, Alike}
+use Rattle.session.specs.Effects.{Workable}
+use Rattle.session.proofs.RefusalLaws.{place-number, open-number, change-number, place-granted, open-granted, change-granted, Openable, place-passes, open-passes, change-passes}
+
+-- ---- answers and replies
+
+done-zero : (n : ℕ) → answered n ≡ Done → n ≡ 0
+done-zero zero e = refl
+done-zero (suc n) e = let z : _≡_ {A = ℕ} 0 1 = cc in absurd (omega arith)
+
+reply : Session → Answer → Reply
+reply s a = record { session = s; answer = a }
+
+same-reply : {r r′ : Reply} → r .session ≡ r′ .session → r .answer ≡ r′ .answer → r ≡ r′
+unfolding reply
+same-reply {r} {r′} e f = ap (λ x. reply x (r .answer)) e ∙ ap (λ x. reply (r′ .session) x) f
+
+-- ---- a call that no rule refuses is done
+
+pub place-done : {s placed : Session} {cell : ℕ} {r : Reply} → Places s placed cell r → Size (s .width) (s .height) → cell < cells s → (r .answer ≡ Done) × (r .session ≡ placed)
+place-done {s} P z l = let e = place-passes s (P .rules) z l in (P .answer ∙ ap answered e, P .done e)
+
+pub open-done : {width height hunter target : ℕ} {t t′ : Tables} {r : Reply} → Opens width height hunter target t r t′ → Openable width height hunter target t → r .answer ≡ Done
+open-done P o = P .answer ∙ ap answered (open-passes (P .rules) o)
+
+pub change-done : {s : Session} {t t′ : Tables} {u d cost : ℕ} {r : Reply} → Changes s t u d cost r t′ → Fits (cells s) t → Workable s t u d cost → r .answer ≡ Done
+change-done P f w = P .answer ∙ ap answered (change-passes (P .rules) f w)
+
+-- ---- a refusal changes nothing
+
+refusal : {n : ℕ} {a : Answer} → a ≡ answered n → a ≢ Done → n ≢ 0
+refusal e n z = n (e ∙ ap answered z)
+
+pub place-refused : {s placed : Session} {cell : ℕ} {r : Reply} → Places s placed cell r → r .answer ≢ Done → r .session ≡ s
+place-refused P n = P .refused (refusal (P .answer) n)
+
+pub open-refused : {width height hunter target : ℕ} {t t′ : Tables} {r : Reply} → Opens width height hunter target t r t′ → r .answer ≢ Done → (r .session ≡ nothing) × (t′ ≡ t)
+open-refused P n = P .refused (refusal (P .answer) n)
+
+pub change-refused : {s : Session} {t t′ : Tables} {u d cost : ℕ} {r : Reply} → Changes s t u d cost r t′ → r .answer ≢ Done → (r .session ≡ s) × (t′ ≡ t)
+change-refused P n = P .refused (refusal (P .answer) n)
+
+-- ---- two results of one placing
+
+pub one-placing : {s placed : Session} {cell : ℕ} {r r′ : Reply} → Places s placed cell r → Places s placed cell r′ → r ≡ r′
+one-placing {s} {placed} {cell} {r} {r′} P Q = same-reply (at (ℕ-discrete (P .number) 0)) (P .answer ∙ ap answered e ∙ sym (Q .answer))
+  where
+    e : P .number ≡ Q .number
+    e = place-number s (P .rules) (Q .rules)
+
+    at : Dec (P .number ≡ 0) → r .session ≡ r′ .session
+    at (yes z) = P .done z ∙ sym (Q .done (sym e ∙ z))
+    at (no n) = P .refused n ∙ sym (Q .refused (λ z. n (e ∙ z)))
+
+-- ---- heaps with the same members
+
+-- They have the same count.
+same-count : {width room count count′ : ℕ} {k1 k2 place list k1′ k2′ place′ list′ : List ℕ} → Heap width room count k1 k2 place list → Heap width room count′ k1′ k2′ place′ list′
+    → members place ≡ members place′ → count ≡ count′
+same-count {room = room} {count = count} {count′ = count′} {place = place} {list = list} {place′ = place′} {list′ = list′} h h′ e =
+    sym (tallied room count place list (h .tables .agree)) ∙ ap tally e ∙ tallied room count′ place′ list′ (h′ .tables .agree)
+
+-- A cell absent in one is absent in the other.
+same-absent : {width room count count′ : ℕ} {k1 k2 place list k1′ k2′ place′ list′ : List ℕ} → Heap width room count k1 k2 place list → Heap width room count′ k1′ k2′ place′ list′
+    → members place ≡ members place′ → (x : ℕ) → x < room → getD place x 0 ≡ absent → getD place′ x 0 ≡ absent
+same-absent {place = place} {place′ = place′} h h′ e x l a =
+    is-absent (
+    sym (member-at place′ x (omega (arith, h′ .tables .agree .lengthPlace))) ∙ ap (λ (z : List Bool). getD z x false) (sym e)
+    ∙ member-at place x (omega (arith, h .tables .agree .lengthPlace)) ∙ missing a
+    )
+
+same-unused : {width room count : ℕ} {k1 k2 place list k1′ k2′ place′ list′ : List ℕ} → Heap width room count k1 k2 place list → Heap width room count k1′ k2′ place′ list′
+    → (i : ℕ) → count ≤ i → getD list i 0 ≡ getD list′ i 0
+same-unused {room = room} {list = list} {list′ = list′} h h′ i c = at (decLt i room)
+  where
+    at : Dec (i < room) → getD list i 0 ≡ getD list′ i 0
+    at (yes l) = h .tables .agree .unused i c l ∙ sym (h′ .tables .agree .unused i c l)
+    at (no n) =
+        List·getD-eq-default list 0 {n = i} (omega (arith, h .tables .agree .lengthList)) ∙ sym (List·getD-eq-default list′ 0 {n = i} (omega (arith, h′ .tables .agree .lengthList)))
+
+-- A heap of one cell has one order: places and list are the same.
+module _ {width room : ℕ} {k1 k2 place list k1′ k2′ place′ list′ : List ℕ} (h : Heap width room 1 k1 k2 place list) (h′ : Heap width room 1 k1′ k2′ place′ list′) (e : members place ≡ members place′) where
+  one-place : place ≡ place′
+  one-place = ext-getD 0 place place′ (h .tables .agree .lengthPlace ∙ sym (h′ .tables .agree .lengthPlace)) (λ x l. at x (omega (arith, l, h .tables .agree .lengthPlace)) (ℕ-discrete (getD place x 0) absent))
+    where
+      at : (x : ℕ) → x < room → Dec (getD place x 0 ≡ absent) → getD place x 0 ≡ getD place′ x 0
+      at x l (yes a) = a ∙ sym (same-absent h h′ e x l a)
+      at x l (no n) = omega (arith, place-used (h .tables .agree) l n .0, place-used (h′ .tables .agree) l (λ a. n (same-absent h′ h (sym e) x l a)) .0)
+
+  one-list : list ≡ list′
+  one-list = ext-getD 0 list list′ (h .tables .agree .lengthList ∙ sym (h′ .tables .agree .lengthList)) (λ i l. at i (ℕ-discrete i 0))
+    where
+      first : getD list 0 0 ≡ getD list′ 0 0
+      first =
+          let lc = h .tables .agree .named 0 (omega arith) in
+          let z : getD place′ (getD list 0 0) 0 ≡ 0 = ap (λ (p : List ℕ). getD p (getD list 0 0) 0) (sym one-place) ∙ h .tables .agree .placed 0 (omega arith) in
+          sym (ap (λ x. getD list′ x 0) (sym z) ∙ h′ .tables .agree .listed (getD list 0 0) lc (omega (arith, z)))
+
+      at : (i : ℕ) → Dec (i ≡ 0) → getD list i 0 ≡ getD list′ i 0
+      at i (yes z) = rw z first
+      at i (no n) = same-unused h h′ i (omega arith)
+
+-- ---- two results of one opening: nothing is left open
+
+same-tables : {t t′ : Tables} → t .plan ≡ t′ .plan → core t ≡ core t′ → t .place ≡ t′ .place → t .list ≡ t′ .list → t ≡ t′
+same-tables {t} {t′} ep ec el em =
+    at ep (ap (λ (T : method.Tables). T .g) ec) (ap (λ (T : method.Tables). T .rhs) ec) (ap (λ (T : method.Tables). T .parent) ec) (ap (λ (T : method.Tables). T .k1) ec) (ap (λ (T : method.Tables). T .k2) ec) el em
+  where
+    at : {p g r q a b l m p′ g′ r′ q′ a′ b′ l′ m′ : List ℕ} → p ≡ p′ → g ≡ g′ → r ≡ r′ → q ≡ q′ → a ≡ a′ → b ≡ b′ → l ≡ l′ → m ≡ m′ → tables p g r q a b l m ≡ tables p′ g′ r′ q′ a′ b′ l′ m′
+    at e f g h i j k l = rw (e, f, g, h, i, j, k, l) refl
+
+pub one-opening : {width height hunter target : ℕ} {t a a′ : Tables} {r r′ : Reply} → Opens width height hunter target t r a → Opens width height hunter target t r′ a′ → (r ≡ r′) × (a ≡ a′)
+one-opening {a = a} {a′ = a′} {r = r} {r′ = r′} P Q = let x = at (ℕ-discrete (P .number) 0) in (same-reply (x .0) (P .answer ∙ ap answered e ∙ sym (Q .answer)), x .1)
+  where
+    e : P .number ≡ Q .number
+    e = open-number (P .rules) (Q .rules)
+
+    at : Dec (P .number ≡ 0) → (r .session ≡ r′ .session) × (a ≡ a′)
+    at (yes z) =
+        let p = P .done z in
+        let q = Q .done (sym e ∙ z) in
+        let c : core a ≡ core a′ = p .1 .is ∙ sym (q .1 .is) in
+        let m : members (a .place) ≡ members (a′ .place) = ap (λ (T : method.Tables). T .queued) c in (
+          p .0 ∙ sym (q .0),
+          same-tables (p .1 .plan ∙ sym (q .1 .plan)) c (one-place (p .1 .heap) (q .1 .heap) m) (one-list (p .1 .heap) (q .1 .heap) m),
+        )
+    at (no n) =
+        let p = P .refused n in
+        let q = Q .refused (λ z. n (e ∙ z)) in
+        (p .0 ∙ sym (q .0), p .1 ∙ sym (q .1))
+
+-- ---- two results of one change: equal but for the order inside the heap
+
+alike-same : {count : ℕ} {t t′ : Tables} → t ≡ t′ → Alike count t t′
+alike-same e = record { plan = ap (λ (x : Tables). x .plan) e; core = ap core e; unused = λ i _. ap (λ (x : Tables). getD (x .list) i 0) e }
+
+pub one-change : {s : Session} {t a a′ : Tables} {u d cost : ℕ} {r r′ : Reply} → Changes s t u d cost r a → Changes s t u d cost r′ a′ → (r ≡ r′) × Alike (r .session .count) a a′
+one-change {s} {a = a} {a′ = a′} {r = r} {r′ = r′} P Q = let x = at (ℕ-discrete (P .number) 0) in (same-reply (x .0) (P .answer ∙ ap answered e ∙ sym (Q .answer)), x .1)
+  where
+    e : P .number ≡ Q .number
+    e = change-number (P .rules) (Q .rules)
+
+    at : Dec (P .number ≡ 0) → (r .session ≡ r′ .session) × Alike (r .session .count) a a′
+    at (yes z) =
+        let p = P .done z in
+        let q = Q .done (sym e ∙ z) in
+        let c : core a ≡ core a′ = p .1 .is ∙ sym (q .1 .is) in
+        let n : r .session .count ≡ r′ .session .count = same-count (p .1 .heap) (q .1 .heap) (ap (λ (T : method.Tables). T .queued) c) in (
+          p .0 ∙ ap (counted s) n ∙ sym (q .0),
+          record {
+            plan = p .1 .plan ∙ sym (q .1 .plan);
+            core = c;
+            unused = same-unused (p .1 .heap) (subst (λ k. Heap (s .width) (cells s) k (a′ .k1) (a′ .k2) (a′ .place) (a′ .list)) (sym n) (q .1 .heap));
+          },
+        )
+    at (no n) =
+        let p = P .refused n in
+        let q = Q .refused (λ z. n (e ∙ z)) in
+        (p .0 ∙ sym (q .0), alike-same (p .1 ∙ sym (q .1)))
+
+-- ---- where a change writes the byte alone
+
+module _ {s : Session} {t t′ : Tables} {u d cost : ℕ} {r : Reply} (P : Changes s t u d cost r t′) where
+  -- The cell entered is not written: record and tables are as they were, but for the byte.
+  pub change-byte-alone : r .answer ≡ Done → (Touches (s .origin) (t .g) (t .rhs) (t .parent) (enteredCell s u d) (backCode d) u (oldCost s t u d) cost → ⊥)
+      → (r .session ≡ s) × (t′ ≡ withPlan t (replanned s t u d cost))
+  change-byte-alone e n =
+      let p = P .done (done-zero (P .number) (sym (P .answer) ∙ e)) in
+      let q = p .1 .untouched n in
+      (p .0 ∙ ap (counted s) (q .0), q .1)
+
+  -- A move into the search's hunter.
+  pub change-into-hunter : r .answer ≡ Done → enteredCell s u d ≡ s .origin → (r .session ≡ s) × (t′ ≡ withPlan t (replanned s t u d cost))
+  change-into-hunter e h = change-byte-alone e (λ x. x .0 h)
+
+  -- A fall that gives no smaller sum.
+  pub change-no-smaller-sum : r .answer ≡ Done → cost < oldCost s t u d → getD (t .rhs) (enteredCell s u d) 0 ≤ getD (t .g) u 0 + cost → (r .session ≡ s) × (t′ ≡ withPlan t (replanned s t u d cost))
+  change-no-smaller-sum e f l =
+      change-byte-alone e (λ x. ⊎-elim (λ (h : (cost < oldCost s t u d) × (getD (t .g) u 0 + cost < getD (t .rhs) (enteredCell s u d) 0)). omega (arith, h .1, l))
+      (λ (h : (oldCost s t u d < cost) × (getD (t .parent) (enteredCell s u d) 0 ≡ backCode d)). omega (arith, h .0, f)) (x .1))
+
+  -- A rise where u is not the parent.
+  pub change-not-the-parent : r .answer ≡ Done → oldCost s t u d < cost → getD (t .parent) (enteredCell s u d) 0 ≢ backCode d → (r .session ≡ s) × (t′ ≡ withPlan t (replanned s t u d cost))
+  change-not-the-parent e f n =
+      change-byte-alone e (λ x. ⊎-elim (λ (h : (cost < oldCost s t u d) × (getD (t .g) u 0 + cost < getD (t .rhs) (enteredCell s u d) 0)). omega (arith, h .0, f))
+      (λ (h : (oldCost s t u d < cost) × (getD (t .parent) (enteredCell s u d) 0 ≡ backCode d)). n (h .1)) (x .1))
+
+  -- "An equal cost changes nothing."
+  pub change-equal-cost : cost ≡ oldCost s t u d → (r .session ≡ s) × (t′ ≡ t)
+  change-equal-cost e = at (ℕ-discrete (P .number) 0)
+    where
+      at : Dec (P .number ≡ 0) → (r .session ≡ s) × (t′ ≡ t)
+      at (yes z) =
+          let q = change-byte-alone (P .answer ∙ ap answered z)
+          (λ x. ⊎-elim (λ (h : (cost < oldCost s t u d) × (getD (t .g) u 0 + cost < getD (t .rhs) (enteredCell s u d) 0)). omega (arith, h .0, e))
+          (λ (h : (oldCost s t u d < cost) × (getD (t .parent) (enteredCell s u d) 0 ≡ backCode d)). omega (arith, h .0, e)) (x .1)) in
+          (q .0, q .1 ∙ ap (withPlan t) (ap (set (t .plan) (4 * u + d)) e ∙ set-getD (t .plan) (4 * u + d) 0))
+      at (no n) = P .refused n
+
+-- ---- sound tables
+
+-- An open that is done leaves sound tables.
+pub opened-sound : {width height hunter target : ℕ} {t t′ : Tables} {r : Reply} → Opens width height hunter target t r t′ → r .answer ≡ Done → Sound (r .session) t′
+opened-sound {width} {height} {hunter} {target} {t} {t′} {r} P e =
+    let z = done-zero (P .number) (sym (P .answer) ∙ e) in
+    let p = P .done z in
+    subst (λ x. Sound x t′) (sym (p .0)) (at (open-granted (P .rules) z) (p .1))
+  where
+    at : Openable width height hunter target t → Opened width height hunter target t t′ → Sound (begun width height hunter target) t′
+    at o p = record {
+      plan = subst (λ x. Obeys (planOf width height x)) (sym (p .plan)) (o .obeys);
+      numbers =
+          subst (λ x. method-sound.Sound (graphOf (planOf width height x)) (opened hunter target) (core t′)) (sym (p .plan))
+          (subst (λ T. method-sound.Sound (graphOf (planOf width height (t .plan))) (opened hunter target) T) (sym (p .is))
+          (method-theorems.open-sound (graph-laws (planOf width height (t .plan)) (o .obeys .size)) hunter target (o .hunter-in) (o .target-in)));
+      heap = p .heap;
+    }
+
+-- So does a change of a move.
+pub changed-sound : {s : Session} {t t′ : Tables} {u d cost : ℕ} {r : Reply} → Changes s t u d cost r t′ → r .answer ≡ Done → Sound (r .session) t′
+changed-sound {s} {t} {t′} {u} {d} {cost} {r} P e =
+    let z = done-zero (P .number) (sym (P .answer) ∙ e) in
+    let p = P .done z in
+    subst (λ x. Sound x t′) (sym (p .0)) (at (change-granted (P .rules) z) (p .1))
+  where
+    at : {n : ℕ} → Workable s t u d cost → WorkedIn s t u d cost n t′ → Sound (counted s n) t′
+    at w p = record {
+      plan =
+          subst (λ x. Obeys (planOf (s .width) (s .height) x)) (sym (p .plan))
+          (changed-obeys (floor s (t .plan)) (w .sound .plan) u d cost (w .cell-in) (w .direction) (w .stays-in) (w .byte));
+      numbers =
+          subst (λ x. method-sound.Sound (graphOf (planOf (s .width) (s .height) x)) (session s) (core t′)) (sym (p .plan))
+          (subst (λ T. method-sound.Sound (graph s (withPlan t (replanned s t u d cost))) (session s) T) (sym (p .is))
+          (method-theorems.move-changed-sound (changed-altered (floor s (t .plan)) (w .sound .plan) u d cost (w .cell-in) (w .direction) (w .stays-in) (w .byte)) (w .sound .numbers)
+          (enters (w .sound .plan .size .wide) (w .stays-in) .inside)));
+      heap = p .heap;
+    }
+
+-- A change keeps sound tables sound, done or refused.
+pub change-keeps-sound : {s : Session} {t t′ : Tables} {u d cost : ℕ} {r : Reply} → Sound s t → Changes s t u d cost r t′ → Sound (r .session) t′
+change-keeps-sound {s} {t} {t′} {r = r} S P = at (ℕ-discrete (P .number) 0)
+  where
+    at : Dec (P .number ≡ 0) → Sound (r .session) t′
+    at (yes z) = changed-sound P (P .answer ∙ ap answered z)
+    at (no n) = let p = P .refused n in subst (λ x. Sound x t′) (sym (p .0)) (subst (Sound s) (sym (p .1)) S)
+
+-- So does placing the hunter or the target, which writes no table.
+placed-sound : {s placed : Session} {t : Tables} {cell : ℕ} {r : Reply} → Sound s t → (cell < cells s → Sound placed t) → Places s placed cell r → Sound (r .session) t
+placed-sound {s} {placed} {t} {cell} {r} S f P = at (ℕ-discrete (P .number) 0)
+  where
+    at : Dec (P .number ≡ 0) → Sound (r .session) t
+    at (yes z) = subst (λ x. Sound x t) (sym (P .done z)) (f (place-granted s (P .rules) z .1))
+    at (no n) = subst (λ x. Sound x t) (sym (P .refused n)) S
+
+pub hunter-placed-sound : {s : Session} {t : Tables} {cell : ℕ} {r : Reply} → Sound s t → Places s (hunterAt s cell) cell r → Sound (r .session) t
+hunter-placed-sound {cell = cell} S = placed-sound S (λ l. record { plan = S .plan; numbers = method-theorems.hunter-placed-sound (S .numbers) cell l; heap = S .heap })
+
+pub target-placed-sound : {s : Session} {t : Tables} {cell : ℕ} {r : Reply} → Sound s t → Places s (targetAt s cell) cell r → Sound (r .session) t
+target-placed-sound {cell = cell} S = placed-sound S (λ l. record { plan = S .plan; numbers = method-theorems.target-placed-sound (S .numbers) cell l; heap = S .heap })

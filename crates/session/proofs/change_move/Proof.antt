@@ -1,0 +1,82 @@
+use mathlib.Core.Path.{refl}
+use Rattle.session.proofs.RefusalLaws.{answer-refused, answer-done, change-granted}
+use borrow.Author.Needs.{needs}
+use Rattle.session.proofs.change_move.Statement.{statement}
+use Rattle.session.proofs.change_move.Tie as tie
+
+change-refusal-requires : tie.Need-change-refusal-requires
+change-refusal-requires c κs = search needs
+
+same-length : tie.Need-same-length
+same-length c = search needs
+
+same-length-2 : tie.Need-same-length-2
+same-length-2 c = search needs
+
+same-length-3 : tie.Need-same-length-3
+same-length-3 c = search needs
+
+same-length-4 : tie.Need-same-length-4
+same-length-4 c = search needs
+
+same-length-5 : tie.Need-same-length-5
+same-length-5 c = search needs
+
+same-length-6 : tie.Need-same-length-6
+same-length-6 c = search needs
+
+same-length-7 : tie.Need-same-length-7
+same-length-7 c = search needs
+
+returns : tie.Need-returns
+returns c = record { number = c .before .change-refusal .result; rules = c .before .change-refusal .ensures; answer = answer-refused _ (c .if1 .taken); refused = λ _. (refl, refl); done = λ z. absurd (c .if1 .taken z) }
+
+work-in-requires : tie.Need-work-in-requires
+work-in-requires c κs = change-granted (c .before .before .before .before .before .before .before .before .change-refusal .ensures) (c .before .before .before .before .before .before .before .if1 .left)
+
+same-length-8 : tie.Need-same-length-8
+same-length-8 c = search needs
+
+same-length-9 : tie.Need-same-length-9
+same-length-9 c = search needs
+
+same-length-10 : tie.Need-same-length-10
+same-length-10 c = search needs
+
+same-length-11 : tie.Need-same-length-11
+same-length-11 c = search needs
+
+same-length-12 : tie.Need-same-length-12
+same-length-12 c = search needs
+
+same-length-13 : tie.Need-same-length-13
+same-length-13 c = search needs
+
+same-length-14 : tie.Need-same-length-14
+same-length-14 c = search needs
+
+returns-2 : tie.Need-returns-2
+returns-2 c = record { number = c .before .before .before .before .before .before .before .before .before .before .before .before .before .before .before .before .before .before .before .before .before .before .before .change-refusal .result; rules = c .before .before .before .before .before .before .before .before .before .before .before .before .before .before .before .before .before .before .before .before .before .before .before .change-refusal .ensures; answer = answer-done _ (c .before .before .before .before .before .before .before .before .before .before .before .before .before .before .before .before .before .before .before .before .before .before .if1 .left); refused = λ n. absurd (n (c .before .before .before .before .before .before .before .before .before .before .before .before .before .before .before .before .before .before .before .before .before .before .if1 .left)); done = λ _. (refl, c .before .before .before .before .before .before .before .before .before .before .before .before .before .before .work-in .ensures) }
+
+pub change-move-spec : {M : Type 1} → statement M
+change-move-spec =
+    tie.close
+    (tie.spec
+    change-refusal-requires
+    same-length
+    same-length-2
+    same-length-3
+    same-length-4
+    same-length-5
+    same-length-6
+    same-length-7
+    returns
+    work-in-requires
+    same-length-8
+    same-length-9
+    same-length-10
+    same-length-11
+    same-length-12
+    same-length-13
+    same-length-14
+    returns-2)

@@ -1,0 +1,70 @@
+use native.Mathlib.Omega.{arith}
+use Rattle.session.proofs.EffectLaws.{asked-own, asked-falls, asked-high, asked-level, asked-other, asked-rises}
+use borrow.Author.Needs.{needs}
+use Rattle.session.proofs.effect_of.Statement.{statement}
+use Rattle.session.proofs.effect_of.Tie as tie
+
+mul-far : tie.Need-mul-far
+mul-far c = search needs
+
+shared-slice-read-far : tie.Need-shared-slice-read-far
+shared-slice-read-far c = search needs
+
+mul-y : tie.Need-mul-y
+mul-y c = search needs
+
+shared-slice-read-y : tie.Need-shared-slice-read-y
+shared-slice-read-y c = search needs
+
+shared-slice-read-p : tie.Need-shared-slice-read-p
+shared-slice-read-p c = search needs
+
+returns : tie.Need-returns
+returns c = asked-own (c .if1 .taken)
+
+sum-of-requires : tie.Need-sum-of-requires
+sum-of-requires c κs = search needs
+
+cast-if3 : tie.Need-cast-if3
+cast-if3 c = omega (arith, c .before .before .before .before .before .before .before .before .shared-slice-known3 .given (c .before .before .before .before .before .before .before .before .before .before .before .args .v))
+
+cast-t25 : tie.Need-cast-t25
+cast-t25 c = omega (arith, c .if3 .taken, c .before .before .before .before .before .before .before .before .before .shared-slice-known3 .given (c .before .before .before .before .before .before .before .before .before .before .before .before .args .v))
+
+returns-2 : tie.Need-returns-2
+returns-2 c = asked-falls (c .before .before .before .if1 .left) (c .before .before .if2 .taken) (c .before .sum-of .ensures) (c .if3 .taken)
+
+returns-3 : tie.Need-returns-3
+returns-3 c = asked-high (c .before .before .if2 .taken) (c .before .sum-of .ensures) (c .if3 .left)
+
+returns-4 : tie.Need-returns-4
+returns-4 c = asked-level (c .if4 .taken)
+
+returns-5 : tie.Need-returns-5
+returns-5 c = asked-other (c .before .before .if2 .left) (c .if5 .taken)
+
+anew-requires : tie.Need-anew-requires
+anew-requires c κs = search needs
+
+returns-6 : tie.Need-returns-6
+returns-6 c = asked-rises (c .before .before .before .before .if1 .left) (c .before .before .before .if2 .left) (c .before .before .if4 .left) (c .before .if5 .left) (c .anew .ensures)
+
+pub effect-of-spec : {M : Type 1} → statement M
+effect-of-spec =
+    tie.close
+    (tie.spec
+    mul-far
+    shared-slice-read-far
+    mul-y
+    shared-slice-read-y
+    shared-slice-read-p
+    returns
+    sum-of-requires
+    cast-if3
+    cast-t25
+    returns-2
+    returns-3
+    returns-4
+    returns-5
+    anew-requires
+    returns-6)

@@ -1,0 +1,42 @@
+-- What the inner functions of a change rest on, and what they promise.
+use mathlib.Core.Path.{_≡_}
+use mathlib.Core.Logic.{_≢_}
+use mathlib.Core.List.{List}
+use Prim.Native.Nat.{ℕ, _+_, _<_}
+use lib.ListN.{getD, length}
+use Rattle.method.specs.Tables.{anew}
+use Rattle.plan.specs.Cells.{Stays}
+use Rattle.plan.specs.Costs.{IsByte, Obeys}
+use Rattle.plan.specs.Grid.{graphOf}
+use Rattle.tables.specs.declared.Session.{Session}
+use Rattle.tables.specs.Lent.{Tables, cells, floor}
+use Rattle.tables.specs.Sound.{Sound}
+use Rattle.entries.specs.Aims.{Small, mostG}
+use Rattle.session.specs.declared.Effect.{Effect}
+use Rattle.session.specs.declared.Effect.the-variants.{Keeps, To}
+use Rattle.session.specs.Promises.{Touches}
+
+-- A change that no rule refuses.
+pub record Workable (s : Session) (t : Tables) (u d cost : ℕ) : Type 0 where
+  pub sound : Sound s t
+  pub cell-in : u < cells s
+  pub direction : d < 4
+  pub stays-in : Stays (s .width) (s .height) u d
+  pub byte : IsByte cost
+
+-- The plan obeys, the tables that a decision reads have their lengths, every g leaves room for a cost, and both cells are in the plan.
+pub record Deciding (s : Session) (plan g rhs parent : List ℕ) (v u : ℕ) : Type 0 where
+  pub obeys : Obeys (floor s plan)
+  pub small : Small mostG g
+  pub long-g : length g ≡ cells s
+  pub long-rhs : length rhs ≡ cells s
+  pub long-parent : length parent ≡ cells s
+  pub entered-in : v < cells s
+  pub cell-in : u < cells s
+
+-- What a changed move asks of the cell v that it enters: to keep its numbers, to take the smaller sum with u as parent, or to be found anew. The plan is that after the change.
+pub data Asked (s : Session) (plan g rhs parent : List ℕ) (v k u old new : ℕ) : Effect → Type 0 where
+  keeps : (Touches (s .origin) g rhs parent v k u old new → ⊥) → Asked s plan g rhs parent v k u old new Keeps
+  falls : v ≢ s .origin → new < old → getD g u 0 + new < getD rhs v 0 → Asked s plan g rhs parent v k u old new (To (getD g u 0 + new) k)
+  rises : v ≢ s .origin → old < new → getD parent v 0 ≡ k
+      → Asked s plan g rhs parent v k u old new (To (anew (graphOf (floor s plan)) g v .sum) (anew (graphOf (floor s plan)) g v .code))

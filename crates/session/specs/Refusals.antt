@@ -1,0 +1,55 @@
+-- Document 01's table of refusals: for each call its rules, each with its number, in the order of checking.
+use Prim.Native.Nat.{ℕ, zero, suc, _*_, _<_}
+use Rattle.plan.specs.Cells.{Size, Stays}
+use Rattle.plan.specs.Costs.{planOf, IsByte, Bytes, Edges}
+use Rattle.tables.specs.declared.Session.{Session}
+use Rattle.tables.specs.Lent.{Tables, cells, Fits}
+use Rattle.tables.specs.Sound.{Sound}
+use Rattle.session.specs.declared.Answer.{Answer}
+use Rattle.session.specs.declared.Answer.the-variants.{Done, Refused}
+
+-- A rule with its number, and the rules after it: the number is that of the first rule that fails ..
+pub data Ruled (P : Type 0) (number : ℕ) (rest : ℕ → Type 0) : ℕ → Type 0 where
+  fails : (P → ⊥) → Ruled P number rest number
+  holds : {k : ℕ} → P → rest k → Ruled P number rest k
+
+-- .. and 0 where every rule holds.
+pub data Passed : ℕ → Type 0 where
+  passed : Passed 0
+
+-- The answer of each number: 0 is no refusal, every other is a refusal that "carries its number only".
+abbrev pub answered : ℕ → Answer
+answered zero = Done
+answered (suc k) = Refused (suc k)
+
+-- Placing a cell: "width or height not 1 to 64"; "a given cell is N or more".
+abbrev pub PlaceRules : Session → ℕ → ℕ → Type 0
+PlaceRules s cell =
+    Ruled (Size (s .width) (s .height)) 1
+    (Ruled (cell < cells s) 3
+    Passed)
+
+-- Opening: the size; "a table is not of its length"; hunter and target; a byte of a move that leaves the plan is not 255; "byte 0 or 251 to 254".
+abbrev pub OpenRules : ℕ → ℕ → ℕ → ℕ → Tables → ℕ → Type 0
+OpenRules width height hunter target t =
+    Ruled (Size width height) 1
+    (Ruled (Fits (height * width) t) 2
+    (Ruled ((hunter < height * width) × (target < height * width)) 3
+    (Ruled (Edges (planOf width height (t .plan))) 4
+    (Ruled (Bytes (planOf width height (t .plan))) 5
+    Passed))))
+
+-- A direction is 0 to 3, and the move stays in the plan.
+abbrev pub IsMove : Session → ℕ → ℕ → Type 0
+IsMove s u d = (d < 4) × Stays (s .width) (s .height) u d
+
+-- A change: the size; the lengths; "tables not sound"; the cell; "direction above 3, or the move leaves the plan"; the cost byte.
+abbrev pub ChangeRules : Session → Tables → ℕ → ℕ → ℕ → ℕ → Type 0
+ChangeRules s t u d cost =
+    Ruled (Size (s .width) (s .height)) 1
+    (Ruled (Fits (cells s) t) 2
+    (Ruled (Sound s t) 6
+    (Ruled (u < cells s) 3
+    (Ruled (IsMove s u d) 4
+    (Ruled (IsByte cost) 5
+    Passed)))))

@@ -1,0 +1,358 @@
+// The public calls: open, place hunter, place target, change a move.
+use entries;
+use entries::Aim;
+use plan;
+use tables;
+ghost use mathlib.Core.Path.{_≡_};
+ghost use Prim.Native.Nat.{_+_, _*_, _<_};
+ghost use Rattle.tables.specs.Lent.{given, before, after};
+ghost use Rattle.session.specs.Refusals.{PlaceRules, OpenRules, ChangeRules};
+ghost use Rattle.session.specs.Promises.{hunterAt, targetAt, Places, Opens, WorkedIn, Changes};
+ghost use Rattle.session.specs.Effects.{Workable, Deciding, Asked};
+
+// Done, or refused with document 01's number.
+pub enum Answer {
+    Done,
+    Refused(u8),
+}
+
+// What a call returns: the record as it leaves it, and the answer.
+pub struct Reply {
+    pub session: tables::Session,
+    pub answer: Answer,
+}
+
+// What a changed move asks of the cell that it enters: to keep its rhs and parent, or to take these.
+enum Effect {
+    Keeps,
+    To(u32, u8),
+}
+
+// The number of the first rule that placing a cell breaks, 0 if none.
+fn place_refusal(s: tables::Session, cell: usize) -> u8
+    ensures { λ r. ⌜ PlaceRules s cell r ⌝ }
+{
+    if !plan::is_size(s.width, s.height) {
+        return 1;
+    }
+    if s.height * s.width <= cell {
+        return 3;
+    }
+    0
+}
+
+// Places the hunter: one field of the record changes. The next search takes it over.
+pub fn place_hunter(s: tables::Session, cell: usize) -> Reply
+    ensures { λ r. ⌜ Places s (hunterAt s cell) cell r ⌝ }
+{
+    let number = place_refusal(s, cell);
+    if number != 0 {
+        return Reply {
+            session: s,
+            answer: Answer::Refused(number),
+        };
+    }
+    let mut placed = s;
+    placed.hunter = cell;
+    Reply {
+        session: placed,
+        answer: Answer::Done,
+    }
+}
+
+// Places the target: one field of the record changes. The next search takes it over.
+pub fn place_target(s: tables::Session, cell: usize) -> Reply
+    ensures { λ r. ⌜ Places s (targetAt s cell) cell r ⌝ }
+{
+    let number = place_refusal(s, cell);
+    if number != 0 {
+        return Reply {
+            session: s,
+            answer: Answer::Refused(number),
+        };
+    }
+    let mut placed = s;
+    placed.target = cell;
+    Reply {
+        session: placed,
+        answer: Answer::Done,
+    }
+}
+
+// The number of the first rule that an open breaks, 0 if none.
+fn open_refusal(
+    width: usize,
+    height: usize,
+    hunter: usize,
+    target: usize,
+    plan: &[u8],
+    g: &[u32],
+    rhs: &[u32],
+    parent: &[u8],
+    k1: &[u32],
+    k2: &[u32],
+    place: &[u16],
+    list: &[u16],
+) -> u8
+    ensures { λ r. ⌜ OpenRules width height hunter target (before plan g rhs parent k1 k2 place list) r ⌝ }
+{
+    if !plan::is_size(width, height) {
+        return 1;
+    }
+    if !tables::lengths_hold(width, height, plan, g, rhs, parent, k1, k2, place, list) {
+        return 2;
+    }
+    let cells = height * width;
+    if cells <= hunter {
+        return 3;
+    }
+    if cells <= target {
+        return 3;
+    }
+    if !plan::edges_hold(width, height, plan) {
+        return 4;
+    }
+    if !plan::bytes_hold(width, height, plan) {
+        return 5;
+    }
+    0
+}
+
+// Opens a session on a plan: fills all other tables fresh.
+pub fn open(
+    width: usize,
+    height: usize,
+    hunter: usize,
+    target: usize,
+    plan: &[u8],
+    g: &mut [u32],
+    rhs: &mut [u32],
+    parent: &mut [u8],
+    k1: &mut [u32],
+    k2: &mut [u32],
+    place: &mut [u16],
+    list: &mut [u16],
+) -> Reply
+    ensures { λ r. ⌜ Opens width height hunter target (before plan g rhs parent k1 k2 place list) r (after plan g rhs parent k1 k2 place list) ⌝ }
+{
+    let number = open_refusal(
+        width,
+        height,
+        hunter,
+        target,
+        plan,
+        g,
+        rhs,
+        parent,
+        k1,
+        k2,
+        place,
+        list,
+    );
+    if number != 0 {
+        let nothing = tables::Session {
+            width: 0,
+            height: 0,
+            hunter: 0,
+            target: 0,
+            origin: 0,
+            goal: 0,
+            km: 0,
+            count: 0,
+            searches: 0,
+        };
+        return Reply {
+            session: nothing,
+            answer: Answer::Refused(number),
+        };
+    }
+    let spot = plan::spot_of(width, target);
+    let a = Aim {
+        width,
+        height,
+        hunter,
+        target,
+        row: spot.row,
+        column: spot.column,
+        km: 0,
+    };
+    let count = entries::fresh(a, plan, g, rhs, parent, k1, k2, place, list);
+    let begun = tables::Session {
+        width,
+        height,
+        hunter,
+        target,
+        origin: hunter,
+        goal: target,
+        km: 0,
+        count,
+        searches: 0,
+    };
+    Reply {
+        session: begun,
+        answer: Answer::Done,
+    }
+}
+
+// The number of the first rule that a change breaks, 0 if none.
+fn change_refusal(
+    s: tables::Session,
+    plan: &[u8],
+    g: &[u32],
+    rhs: &[u32],
+    parent: &[u8],
+    k1: &[u32],
+    k2: &[u32],
+    place: &[u16],
+    list: &[u16],
+    u: usize,
+    d: usize,
+    cost: u8,
+) -> u8
+    ensures { λ r. ⌜ ChangeRules s (before plan g rhs parent k1 k2 place list) u d cost r ⌝ }
+{
+    if !plan::is_size(s.width, s.height) {
+        return 1;
+    }
+    if !tables::lengths_hold(s.width, s.height, plan, g, rhs, parent, k1, k2, place, list) {
+        return 2;
+    }
+    if !tables::is_sound(s, plan, g, rhs, parent, k1, k2, place, list) {
+        return 6;
+    }
+    if s.height * s.width <= u {
+        return 3;
+    }
+    if 3 < d {
+        return 4;
+    }
+    let at = plan::spot_of(s.width, u);
+    if !plan::stays_in(s.width, s.height, at, d) {
+        return 4;
+    }
+    if !plan::is_byte(cost) {
+        return 5;
+    }
+    0
+}
+
+// A number and a cost, in 64 bits.
+fn sum_of(far: u32, cost: u8) -> usize
+    ensures { λ r. ⌜ r ≡ far + cost ⌝ }
+{
+    far as usize + cost as usize
+}
+
+// What a changed move asks of the cell v that it enters, where it has parent code k. The plan has the new cost.
+fn effect_of(
+    s: tables::Session,
+    plan: &[u8],
+    g: &[u32],
+    rhs: &[u32],
+    parent: &[u8],
+    v: usize,
+    k: u8,
+    u: usize,
+    old: u8,
+    new: u8,
+) -> Effect
+    requires { ⌜ Deciding s (now plan) (now g) (now rhs) (now parent) v u ⌝ }
+    ensures { λ r. ⌜ Asked s (now (plan .entry)) (now (g .entry)) (now (rhs .entry)) (now (parent .entry)) v k u old new r ⌝ }
+{
+    let far = g[u];
+    let y = rhs[v];
+    let p = parent[v];
+    if v == s.origin {
+        return Effect::Keeps;
+    }
+    if new < old {
+        let sum = sum_of(far, new);
+        if sum < y as usize {
+            return Effect::To(sum as u32, k);
+        }
+        return Effect::Keeps;
+    }
+    if new == old {
+        return Effect::Keeps;
+    }
+    if p != k {
+        return Effect::Keeps;
+    }
+    let f = entries::anew(s.width, s.height, plan, g, v);
+    Effect::To(f.rhs, f.parent)
+}
+
+// Gives the move from cell u in direction d its new cost, and works it in at the cell entered. Returns the queue's count.
+fn work_in(
+    s: tables::Session,
+    plan: &mut [u8],
+    g: &[u32],
+    rhs: &mut [u32],
+    parent: &mut [u8],
+    k1: &mut [u32],
+    k2: &mut [u32],
+    place: &mut [u16],
+    list: &mut [u16],
+    u: usize,
+    d: usize,
+    cost: u8,
+) -> usize
+    requires { ⌜ Workable s (given plan g rhs parent k1 k2 place list) u d cost ⌝ }
+    ensures { λ r. ⌜ WorkedIn s (before plan g rhs parent k1 k2 place list) u d cost r (after plan g rhs parent k1 k2 place list) ⌝ }
+{
+    let v = plan::entered(s.width, u, d);
+    let k = ((d + 2) % 4 + 1) as u8;
+    let i = 4 * u + d;
+    let old = plan[i];
+    plan[i] = cost;
+    let effect = effect_of(s, plan, g, rhs, parent, v, k, u, old, cost);
+    let Effect::To(sum, code) = effect else {
+        return s.count;
+    };
+    rhs[v] = sum;
+    parent[v] = code;
+    let spot = plan::spot_of(s.width, s.goal);
+    let a = Aim {
+        width: s.width,
+        height: s.height,
+        hunter: s.origin,
+        target: s.goal,
+        row: spot.row,
+        column: spot.column,
+        km: s.km,
+    };
+    let at = plan::spot_of(s.width, v);
+    entries::set_right(a, g, rhs, k1, k2, place, list, s.count, v, at)
+}
+
+// Changes a move: gives cell u's move in direction d a cost, and works that in.
+pub fn change_move(
+    s: tables::Session,
+    plan: &mut [u8],
+    g: &[u32],
+    rhs: &mut [u32],
+    parent: &mut [u8],
+    k1: &mut [u32],
+    k2: &mut [u32],
+    place: &mut [u16],
+    list: &mut [u16],
+    u: usize,
+    d: usize,
+    cost: u8,
+) -> Reply
+    ensures { λ r. ⌜ Changes s (before plan g rhs parent k1 k2 place list) u d cost r (after plan g rhs parent k1 k2 place list) ⌝ }
+{
+    let refusal = change_refusal(s, plan, g, rhs, parent, k1, k2, place, list, u, d, cost);
+    if refusal != 0 {
+        return Reply {
+            session: s,
+            answer: Answer::Refused(refusal),
+        };
+    }
+    let mut changed = s;
+    changed.count = work_in(s, plan, g, rhs, parent, k1, k2, place, list, u, d, cost);
+    Reply {
+        session: changed,
+        answer: Answer::Done,
+    }
+}

@@ -1,0 +1,2 @@
+-- The way shown: where the parents lead, and what is written of it.
+pub mod Way
