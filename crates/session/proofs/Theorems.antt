@@ -85,7 +85,7 @@ one-placing {s} {placed} {cell} {r} {r′} P Q = same-reply (at (ℕ-discrete (P
 -- ---- heaps with the same members
 
 -- They have the same count.
-same-count : {width room count count′ : ℕ} {k1 k2 place list k1′ k2′ place′ list′ : List ℕ} → Heap width room count k1 k2 place list → Heap width room count′ k1′ k2′ place′ list′
+pub same-count : {width room count count′ : ℕ} {k1 k2 place list k1′ k2′ place′ list′ : List ℕ} → Heap width room count k1 k2 place list → Heap width room count′ k1′ k2′ place′ list′
     → members place ≡ members place′ → count ≡ count′
 same-count {room = room} {count = count} {count′ = count′} {place = place} {list = list} {place′ = place′} {list′ = list′} h h′ e =
     sym (tallied room count place list (h .tables .agree)) ∙ ap tally e ∙ tallied room count′ place′ list′ (h′ .tables .agree)
@@ -99,7 +99,7 @@ same-absent {place = place} {place′ = place′} h h′ e x l a =
     ∙ member-at place x (omega (arith, h .tables .agree .lengthPlace)) ∙ missing a
     )
 
-same-unused : {width room count : ℕ} {k1 k2 place list k1′ k2′ place′ list′ : List ℕ} → Heap width room count k1 k2 place list → Heap width room count k1′ k2′ place′ list′
+pub same-unused : {width room count : ℕ} {k1 k2 place list k1′ k2′ place′ list′ : List ℕ} → Heap width room count k1 k2 place list → Heap width room count k1′ k2′ place′ list′
     → (i : ℕ) → count ≤ i → getD list i 0 ≡ getD list′ i 0
 same-unused {room = room} {list = list} {list′ = list′} h h′ i c = at (decLt i room)
   where
@@ -161,7 +161,7 @@ one-opening {a = a} {a′ = a′} {r = r} {r′ = r′} P Q = let x = at (ℕ-di
 
 -- ---- two results of one change: equal but for the order inside the heap
 
-alike-same : {count : ℕ} {t t′ : Tables} → t ≡ t′ → Alike count t t′
+pub alike-same : {count : ℕ} {t t′ : Tables} → t ≡ t′ → Alike count t t′
 alike-same e = record { plan = ap (λ (x : Tables). x .plan) e; core = ap core e; unused = λ i _. ap (λ (x : Tables). getD (x .list) i 0) e }
 
 pub one-change : {s : Session} {t a a′ : Tables} {u d cost : ℕ} {r r′ : Reply} → Changes s t u d cost r a → Changes s t u d cost r′ a′ → (r ≡ r′) × Alike (r .session .count) a a′

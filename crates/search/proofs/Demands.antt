@@ -1,0 +1,160 @@
+-- The letter's three demands, proved of the calls; specs/Demands.antt says what each means.
+use mathlib.Core.Path.{_≡_, refl, sym, ap, subst, _∙_}
+use mathlib.Core.Logic.{_≢_, _↔_}
+use mathlib.Core.List.{List, []}
+use Prim.Native.Nat.{ℕ, zero, suc, _*_, _≤_}
+use native.Mathlib.Omega.{arith}
+use native.Mathlib.Decide.{ℕ-discrete}
+use lib.ListN.{length}
+use Rattle.method.specs.Graph.{GraphLaws}
+use Rattle.method.specs.Session as calls
+use Rattle.method.specs.Sound as method-sound
+use Rattle.method.specs.Course.{Runs}
+use Rattle.method.specs.Walk.{NoChain, RightAnswer, none-there, way-there}
+use Rattle.method.proofs.Theorems as method
+use Rattle.queue.specs.Queue.{Heap}
+use Rattle.plan.specs.Costs.{planOf, Obeys}
+use Rattle.plan.specs.Grid.{graphOf}
+use Rattle.plan.proofs.GridLaws.{graph-laws}
+use Rattle.tables.specs.declared.Session.{Session}
+use Rattle.tables.specs.Lent.{Tables, cells, floor, graph, session, core}
+use Rattle.tables.specs.Sound.{Sound}
+use Rattle.session.specs.Refusals.{answered}
+use Rattle.session.specs.Promises.{Alike}
+use Rattle.session.proofs.RefusalLaws.{answer-refused, place-number, open-number, change-number}
+use Rattle.session.proofs.Theorems.{same-count, same-unused, alike-same}
+use Rattle.take_over.proofs.TakeOverLaws.{restarting}
+use Rattle.search.specs.declared.Answer.{Answer}
+use Rattle.search.specs.declared.Answer.the-variants.{Caught, NoWay, Way, Refused}
+use Rattle.search.specs.declared.Outcome.{Outcome}
+use Rattle.search.specs.Answer.{toldBy, answerOf, cellsOf}
+use Rattle.search.specs.Promise.{outcome, written, Searched, Searches}
+use Rattle.search.specs.Demands.{RefusesByNumber, stepsOf, RightlyAnswered, caught, none-leads, way-shown, TakesTheSteps, FewSteps}
+use Rattle.search.proofs.RefusalLaws.{search-number, search-passes}
+
+-- ---- 1
+
+pub demand-1 : RefusesByNumber
+demand-1 = record {
+  place = λ {s} P R n. let e = place-number s (P .rules) R in (P .answer ∙ ap answered e ∙ sym (answer-refused _ n), P .refused (λ z. n (sym e ∙ z)));
+  opening = λ P R n. let e = open-number (P .rules) R in let q = P .refused (λ z. n (sym e ∙ z)) in (P .answer ∙ ap answered e ∙ sym (answer-refused _ n), q .0, q .1);
+  change = λ P R n. let e = change-number (P .rules) R in let q = P .refused (λ z. n (sym e ∙ z)) in (P .answer ∙ ap answered e ∙ sym (answer-refused _ n), q .0, q .1);
+  search = λ way P R n. let e = search-number way (P .rules) R in let q = P .refused (λ z. n (sym e ∙ z)) in (q .0 ∙ ap Refused e, q .1, q .2, q .3);
+}
+
+-- ---- 2 and 3: a search of sound tables, with room for the way, is not refused
+
+pub not-refused : {s : Session} {t t′ : Tables} (way : List ℕ) {way′ : List ℕ} {r : Outcome} → Sound s t → cells s ≤ length way → Searches s t way r t′ way′ → Searched s t way r t′ way′
+not-refused way S room P = P .done (search-passes way (P .rules) (restarting S .fits) S room)
+
+module _ {s : Session} {t : Tables} (S : Sound s t) where
+  laws : GraphLaws (graph s t)
+  laws = graph-laws (floor s (t .plan)) (S .plan .size)
+
+  -- the answer that the method gives is right
+  right : (way : List ℕ) → RightlyAnswered s t way (answerOf (outcome s t .answer)) (written (cellsOf (outcome s t .answer)) way)
+  right way = at (ℕ-discrete (s .hunter) (s .target))
+    where
+      from : {steps : ℕ} {a : calls.Answer} → s .hunter ≢ s .target → steps ≡ length (stepsOf s t) → RightAnswer (graph s t) (s .hunter) (s .target) steps a
+          → RightlyAnswered s t way (answerOf a) (written (cellsOf a) way)
+      from n e (none-there f) = subst (λ k. RightlyAnswered s t way (NoWay k) way) (sym e) (none-leads n f)
+      from n e (way-there {cost} {cells = shown} c l) = subst (λ k. RightlyAnswered s t way (Way cost k (length shown)) (written shown way)) (sym e) (way-shown n c l)
+
+      at : Dec (s .hunter ≡ s .target) → RightlyAnswered s t way (answerOf (outcome s t .answer)) (written (cellsOf (outcome s t .answer)) way)
+      at (yes e) =
+          subst (λ o. RightlyAnswered s t way (answerOf (o .answer)) (written (cellsOf (o .answer)) way)) (sym (method.caught-unchanged laws (S .numbers) e)) (caught e)
+      at (no n) = from n refl (method.right-answer laws (S .numbers) n)
+
+  -- the steps that the answer tells
+  told : (a : calls.Answer) → toldBy (answerOf a) .steps ≡ calls.stepsShown a
+  told (calls.caught x) = refl
+  told (calls.none-leads n) = refl
+  told (calls.way c n l) = refl
+  told calls.cut-off = refl
+
+  module _ (way : List ℕ) {way′ : List ℕ} {t′ : Tables} {r : Outcome} (room : cells s ≤ length way) (P : Searches s t way r t′ way′) where
+    done : Searched s t way r t′ way′
+    done = not-refused way S room P
+
+    answered-right : RightlyAnswered s t way (r .answer) way′
+    answered-right = subst (λ w. RightlyAnswered s t way (r .answer) w) (sym (done .shown)) (subst (λ a. RightlyAnswered s t way a (written (cellsOf (outcome s t .answer)) way)) (sym (done .answer)) (right way))
+
+    pub demand-2 : TakesTheSteps s t way r t′ way′
+    demand-2 = record {
+      steps = λ n. subst (λ T. Runs (calls.huntOf (graph s t) (calls.takenOver (graph s t) (session s) (core t) .session)) (calls.takenOver (graph s t) (session s) (core t) .tables) (stepsOf s t) T) (sym (done .tables-are)) (method.search-is-course laws (S .numbers) n);
+      answer = answered-right;
+      none-exactly = λ n. at n answered-right;
+    }
+      where
+        at : {a : Answer} {w : List ℕ} → s .hunter ≢ s .target → RightlyAnswered s t way a w → (a ≡ NoWay (length (stepsOf s t))) ↔ NoChain (graph s t) (s .hunter) (s .target)
+        at n (caught e) = absurd (n e)
+        at n (none-leads _ f) = (λ _. f, λ _. refl)
+        at n (way-shown _ c l) = (λ e. let z : _≡_ {A = ℕ} 0 1 = cc in absurd (omega arith), λ f. absurd (f _ _ (c .leads)))
+
+    pub demand-3 : FewSteps s t r t′
+    demand-3 = record {
+      at-most-3N = method.at-most-3N laws (S .numbers);
+      no-step-twice = method.no-step-twice laws (S .numbers);
+      reported = ap (λ a. toldBy a .steps) (done .answer) ∙ told (outcome s t .answer) ∙ method.steps-shown laws (S .numbers);
+      sound-again = sound;
+    }
+      where
+        numbers : method-sound.Sound (graph s t) (session (r .session)) (core t′)
+        numbers =
+            subst (λ σ. method-sound.Sound (graph s t) σ (core t′)) (sym (done .record-is))
+            (subst (λ T. method-sound.Sound (graph s t) (outcome s t .session) T) (sym (done .tables-are)) (method.search-sound laws (S .numbers)))
+
+        floor-is : floor (r .session) (t′ .plan) ≡ floor s (t .plan)
+        floor-is =
+            ap (λ w. planOf w (r .session .height) (t′ .plan)) (done .wide) ∙ ap (λ h. planOf (s .width) h (t′ .plan)) (done .high) ∙ ap (λ p. planOf (s .width) (s .height) p) (done .plan)
+
+        sound : Sound (r .session) t′
+        sound = record {
+          plan = subst (λ p. Obeys p) (sym floor-is) (S .plan);
+          numbers = subst (λ p. method-sound.Sound (graphOf p) (session (r .session)) (core t′)) (sym floor-is) numbers;
+          heap =
+              subst (λ w. Heap w (r .session .height * w) (r .session .count) (t′ .k1) (t′ .k2) (t′ .place) (t′ .list)) (sym (done .wide))
+              (subst (λ h. Heap (s .width) (h * s .width) (r .session .count) (t′ .k1) (t′ .k2) (t′ .place) (t′ .list)) (sym (done .high)) (done .heap));
+        }
+
+-- ---- two results of one search: equal but for the order inside the heap
+
+same-record : {r r′ : Session} → r .width ≡ r′ .width → r .height ≡ r′ .height → session r ≡ session r′ → r .count ≡ r′ .count → r ≡ r′
+same-record {r} {r′} ew eh es ec =
+    ap (λ w. built w (r .height) (session r) (r .count)) ew ∙ ap (λ h. built (r′ .width) h (session r) (r .count)) eh ∙ ap (λ σ. built (r′ .width) (r′ .height) σ (r .count)) es
+    ∙ ap (λ n. built (r′ .width) (r′ .height) (session r′) n) ec
+  where
+    built : ℕ → ℕ → calls.Session → ℕ → Session
+    built w h σ n = record { width = w; height = h; hunter = σ .hunter; target = σ .target; origin = σ .lastHunter; goal = σ .lastTarget; km = σ .km; count = n; searches = σ .searches }
+
+same-outcome : {r r′ : Outcome} → r .session ≡ r′ .session → r .answer ≡ r′ .answer → r ≡ r′
+same-outcome {r} {r′} e f = ap (λ x. made x (r .answer)) e ∙ ap (λ x. made (r′ .session) x) f
+  where
+    made : Session → Answer → Outcome
+    made s a = record { session = s; answer = a }
+
+pub one-search : {s : Session} {t a a′ : Tables} (way : List ℕ) {w w′ : List ℕ} {r r′ : Outcome} → Searches s t way r a w → Searches s t way r′ a′ w′
+    → (r ≡ r′) × Alike (r .session .count) a a′ × (w ≡ w′)
+one-search {s} {t} {a} {a′} way {w} {w′} {r} {r′} P Q = at (ℕ-discrete (P .number) 0)
+  where
+    e : P .number ≡ Q .number
+    e = search-number way (P .rules) (Q .rules)
+
+    at : Dec (P .number ≡ 0) → (r ≡ r′) × Alike (r .session .count) a a′ × (w ≡ w′)
+    at (yes z) =
+        let p = P .done z in
+        let q = Q .done (sym e ∙ z) in
+        let c : core a ≡ core a′ = p .tables-are ∙ sym (q .tables-are) in
+        let n : r .session .count ≡ r′ .session .count = same-count (p .heap) (q .heap) (ap (λ T. T .queued) c) in (
+          same-outcome (same-record (p .wide ∙ sym (q .wide)) (p .high ∙ sym (q .high)) (p .record-is ∙ sym (q .record-is)) n) (p .answer ∙ sym (q .answer)),
+          record {
+            plan = p .plan ∙ sym (q .plan);
+            core = c;
+            unused = same-unused (p .heap) (subst (λ k. Heap (s .width) (cells s) k (a′ .k1) (a′ .k2) (a′ .place) (a′ .list)) (sym n) (q .heap));
+          },
+          p .shown ∙ sym (q .shown),
+        )
+    at (no n) =
+        let p = P .refused n in
+        let q = Q .refused (λ z. n (e ∙ z)) in
+        (same-outcome (p .1 ∙ sym (q .1)) (p .0 ∙ ap Refused e ∙ sym (q .0)), alike-same (p .2 ∙ sym (q .2)), p .3 ∙ sym (q .3))
