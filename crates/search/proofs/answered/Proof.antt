@@ -1,6 +1,5 @@
 use native.Mathlib.Omega.{arith}
 use borrow.Author.Tests.{not-true, not-false}
-use Rattle.plan.proofs.MoveLaws.{area}
 use Rattle.search.specs.Promise.{cut-off, none-leads, way-shown}
 use borrow.Author.Needs.{needs}
 use Rattle.search.proofs.answered.Statement.{statement}
@@ -28,7 +27,7 @@ write-way-requires : tie.Need-write-way-requires
 write-way-requires c κs = c .before .before .before .before .before .before .before .before .before .pre .led (c .before .before .if2 .left)
 
 sub-t14 : tie.Need-sub-t14
-sub-t14 c = c .before .before .before .before .before .before .before .before .before .before .before .before .pre .not-above (c .before .before .before .before .before .if2 .left)
+sub-t14 c = omega (arith, c .before .before .before .before .before .before .before .before .before .before .before .before .pre .not-above (c .before .before .before .before .before .if2 .left))
 
 same-length : tie.Need-same-length
 same-length c = search needs
