@@ -22,7 +22,7 @@ use Rattle.tables.specs.Sound.{Sound}
 use Rattle.session.specs.Refusals.{answered}
 use Rattle.session.specs.Promises.{Alike}
 use Rattle.session.proofs.RefusalLaws.{answer-refused, place-number, open-number, change-number}
-use Rattle.session.proofs.Theorems.{same-count, same-unused, alike-same}
+use Rattle.session.proofs.Theorems.{alike, alike-same}
 use Rattle.take_over.proofs.TakeOverLaws.{restarting}
 use Rattle.search.specs.declared.Answer.{Answer}
 use Rattle.search.specs.declared.Answer.the-variants.{Caught, NoWay, Way, Refused}
@@ -145,15 +145,8 @@ one-search {s} {t} {a} {a′} way {w} {w′} {r} {r′} P Q = at (ℕ-discrete (
         let p = P .done z in
         let q = Q .done (sym e ∙ z) in
         let c : core a ≡ core a′ = p .tables-are ∙ sym (q .tables-are) in
-        let n : r .session .count ≡ r′ .session .count = same-count (p .heap) (q .heap) (ap (λ T. T .queued) c) in (
-          same-outcome (same-record (p .wide ∙ sym (q .wide)) (p .high ∙ sym (q .high)) (p .record-is ∙ sym (q .record-is)) n) (p .answer ∙ sym (q .answer)),
-          record {
-            plan = p .plan ∙ sym (q .plan);
-            core = c;
-            unused = same-unused (p .heap) (subst (λ k. Heap (s .width) (cells s) k (a′ .k1) (a′ .k2) (a′ .place) (a′ .list)) (sym n) (q .heap));
-          },
-          p .shown ∙ sym (q .shown),
-        )
+        let x = alike a a′ (p .plan ∙ sym (q .plan)) c (p .heap) (q .heap) in
+        (same-outcome (same-record (p .wide ∙ sym (q .wide)) (p .high ∙ sym (q .high)) (p .record-is ∙ sym (q .record-is)) (x .0)) (p .answer ∙ sym (q .answer)), x .1, p .shown ∙ sym (q .shown))
     at (no n) =
         let p = P .refused n in
         let q = Q .refused (λ z. n (e ∙ z)) in

@@ -12,8 +12,8 @@ use Rattle.tables.specs.Lent.{Tables}
 use Rattle.entries.specs.declared.Aim.{Aim}
 use Rattle.entries.specs.Aims.{Aimed}
 use Rattle.entries.specs.Became.{Became}
+use Rattle.session.specs.Refusals.{Openable}
 use Rattle.session.specs.Promises.{begun, Opened}
-use Rattle.session.proofs.RefusalLaws.{Openable}
 
 -- The aim of a search at the cells given.
 abbrev pub aimAt : ℕ → ℕ → ℕ → ℕ → ℕ → ℕ → Aim

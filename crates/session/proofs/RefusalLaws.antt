@@ -1,15 +1,13 @@
 -- The rules of each call give one number; number 0 gives every rule, and where every rule holds the number is 0.
 use mathlib.Core.Path.{_≡_, refl, sym, ap}
 use mathlib.Core.Logic.{_≢_}
-use Prim.Native.Nat.{ℕ, zero, suc, _*_, _<_}
+use Prim.Native.Nat.{ℕ, zero, suc, _<_}
 use native.Mathlib.Omega.{arith}
 use Rattle.plan.specs.Cells.{Size}
-use Rattle.plan.specs.Costs.{planOf, Obeys}
 use Rattle.tables.specs.declared.Session.{Session}
 use Rattle.tables.specs.Lent.{Tables, cells, Fits}
 use Rattle.session.specs.declared.Answer.the-variants.{Done, Refused}
-use Rattle.session.specs.Refusals.{Ruled, fails, holds, Passed, passed, answered, PlaceRules, OpenRules, ChangeRules}
-use Rattle.session.specs.Effects.{Workable}
+use Rattle.session.specs.Refusals.{Ruled, fails, holds, Passed, passed, answered, PlaceRules, OpenRules, ChangeRules, Openable, Workable}
 
 -- ---- answers
 
@@ -48,13 +46,6 @@ granted (holds p r) e = (p, r)
 
 pub place-granted : (s : Session) {cell k : ℕ} → PlaceRules s cell k → k ≡ 0 → Size (s .width) (s .height) × (cell < cells s)
 place-granted s r e = let a = granted r e in (a .0, granted (a .1) e .0)
-
--- What an open that no rule refuses has.
-pub record Openable (width height hunter target : ℕ) (t : Tables) : Type 0 where
-  pub fits : Fits (height * width) t
-  pub hunter-in : hunter < height * width
-  pub target-in : target < height * width
-  pub obeys : Obeys (planOf width height (t .plan))
 
 pub open-granted : {width height hunter target : ℕ} {t : Tables} {k : ℕ} → OpenRules width height hunter target t k → k ≡ 0 → Openable width height hunter target t
 open-granted r e =

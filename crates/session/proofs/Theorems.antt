@@ -14,7 +14,7 @@ use Rattle.method.specs.Sound as method-sound
 use Rattle.method.proofs.Theorems as method-theorems
 use Rattle.queue.specs.Queue.{absent, members, Heap}
 use Rattle.queue.proofs.MemberLaws.{missing, is-absent, member-at, tally}
-use Rattle.queue.proofs.PlaceLaws.{counted as tallied, place-used}
+use Rattle.queue.proofs.PlaceLaws.{counted as tallied, not-absent, place-used}
 use Rattle.plan.specs.Cells.{Size}
 use Rattle.plan.specs.Costs.{planOf, Obeys}
 use Rattle.plan.specs.Grid.{graphOf}
@@ -27,10 +27,9 @@ use Rattle.tables.specs.Sound.{Sound}
 use Rattle.session.specs.declared.Answer.{Answer}
 use Rattle.session.specs.declared.Answer.the-variants.{Done}
 use Rattle.session.specs.declared.Reply.{Reply}
-use Rattle.session.specs.Refusals.{answered}
-use Rattle.session.specs.Promises.{hunterAt, targetAt, counted, begun, nothing, Places, Opened, Opens, Touches, withPlan, replanned, enteredCell, backCode, oldCost, WorkedIn, Changes, Alike}
-use Rattle.session.specs.Effects.{Workable}
-use Rattle.session.proofs.RefusalLaws.{place-number, open-number, change-number, place-granted, open-granted, change-granted, Openable, place-passes, open-passes, change-passes}
+use Rattle.session.specs.Refusals.{answered, Openable, Workable}
+use Rattle.session.specs.Promises.{hunterAt, targetAt, counted, begun, nothing, Places, Opened, Opens, Touches, withPlan, replanned, enteredCell, backCode, oldCost, WorkedIn, Changes, Names, Alike}
+use Rattle.session.proofs.RefusalLaws.{place-number, open-number, change-number, place-granted, open-granted, change-granted, place-passes, open-passes, change-passes}
 
 -- ---- answers and replies
 
@@ -85,7 +84,7 @@ one-placing {s} {placed} {cell} {r} {r′} P Q = same-reply (at (ℕ-discrete (P
 -- ---- heaps with the same members
 
 -- They have the same count.
-pub same-count : {width room count count′ : ℕ} {k1 k2 place list k1′ k2′ place′ list′ : List ℕ} → Heap width room count k1 k2 place list → Heap width room count′ k1′ k2′ place′ list′
+same-count : {width room count count′ : ℕ} {k1 k2 place list k1′ k2′ place′ list′ : List ℕ} → Heap width room count k1 k2 place list → Heap width room count′ k1′ k2′ place′ list′
     → members place ≡ members place′ → count ≡ count′
 same-count {room = room} {count = count} {count′ = count′} {place = place} {list = list} {place′ = place′} {list′ = list′} h h′ e =
     sym (tallied room count place list (h .tables .agree)) ∙ ap tally e ∙ tallied room count′ place′ list′ (h′ .tables .agree)
@@ -99,7 +98,16 @@ same-absent {place = place} {place′ = place′} h h′ e x l a =
     ∙ member-at place x (omega (arith, h .tables .agree .lengthPlace)) ∙ missing a
     )
 
-pub same-unused : {width room count : ℕ} {k1 k2 place list k1′ k2′ place′ list′ : List ℕ} → Heap width room count k1 k2 place list → Heap width room count k1′ k2′ place′ list′
+-- A cell that the list of one names is named by the list of the other.
+same-named : (t t′ : Tables) {width room count : ℕ} → Heap width room count (t .k1) (t .k2) (t .place) (t .list) → Heap width room count (t′ .k1) (t′ .k2) (t′ .place) (t′ .list)
+    → members (t .place) ≡ members (t′ .place) → (x : ℕ) → Names count t x → Names count t′ x
+same-named t t′ {room = room} h h′ e x n =
+    let l : x < room = subst (λ y. y < room) (n .2) (h .tables .agree .named (n .0) (n .1)) in
+    let p : getD (t .place) x 0 ≡ n .0 = subst (λ y. getD (t .place) y 0 ≡ n .0) (n .2) (h .tables .agree .placed (n .0) (n .1)) in
+    let q = place-used (h′ .tables .agree) l (λ a. not-absent (h .tables .agree) (n .1) (sym p ∙ same-absent h′ h (sym e) x l a)) in
+    (getD (t′ .place) x 0, q .0, q .1)
+
+same-unused : {width room count : ℕ} {k1 k2 place list k1′ k2′ place′ list′ : List ℕ} → Heap width room count k1 k2 place list → Heap width room count k1′ k2′ place′ list′
     → (i : ℕ) → count ≤ i → getD list i 0 ≡ getD list′ i 0
 same-unused {room = room} {list = list} {list′ = list′} h h′ i c = at (decLt i room)
   where
@@ -162,7 +170,18 @@ one-opening {a = a} {a′ = a′} {r = r} {r′ = r′} P Q = let x = at (ℕ-di
 -- ---- two results of one change: equal but for the order inside the heap
 
 pub alike-same : {count : ℕ} {t t′ : Tables} → t ≡ t′ → Alike count t t′
-alike-same e = record { plan = ap (λ (x : Tables). x .plan) e; core = ap core e; unused = λ i _. ap (λ (x : Tables). getD (x .list) i 0) e }
+alike-same {count} e = record { plan = ap (λ (x : Tables). x .plan) e; core = ap core e; named = λ x. (subst (λ (y : Tables). Names count y x) e, subst (λ (y : Tables). Names count y x) (sym e)); unused = λ i _. ap (λ (x : Tables). getD (x .list) i 0) e }
+
+-- The counts are equal too.
+pub alike : {width room count count′ : ℕ} (a a′ : Tables) → a .plan ≡ a′ .plan → core a ≡ core a′ → Heap width room count (a .k1) (a .k2) (a .place) (a .list) → Heap width room count′ (a′ .k1) (a′ .k2) (a′ .place) (a′ .list)
+    → (count ≡ count′) × Alike count a a′
+alike {width} {room} a a′ p c h h′ =
+    let m : members (a .place) ≡ members (a′ .place) = ap (λ (T : method.Tables). T .queued) c in
+    let n = same-count h h′ m in
+    let g = subst (λ k. Heap width room k (a′ .k1) (a′ .k2) (a′ .place) (a′ .list)) (sym n) h′ in (
+      n,
+      record { plan = p; core = c; named = λ x. (same-named a a′ h g m x, same-named a′ a g h (sym m) x); unused = same-unused h g },
+    )
 
 pub one-change : {s : Session} {t a a′ : Tables} {u d cost : ℕ} {r r′ : Reply} → Changes s t u d cost r a → Changes s t u d cost r′ a′ → (r ≡ r′) × Alike (r .session .count) a a′
 one-change {s} {a = a} {a′ = a′} {r = r} {r′ = r′} P Q = let x = at (ℕ-discrete (P .number) 0) in (same-reply (x .0) (P .answer ∙ ap answered e ∙ sym (Q .answer)), x .1)
@@ -175,14 +194,8 @@ one-change {s} {a = a} {a′ = a′} {r = r} {r′ = r′} P Q = let x = at (ℕ
         let p = P .done z in
         let q = Q .done (sym e ∙ z) in
         let c : core a ≡ core a′ = p .1 .is ∙ sym (q .1 .is) in
-        let n : r .session .count ≡ r′ .session .count = same-count (p .1 .heap) (q .1 .heap) (ap (λ (T : method.Tables). T .queued) c) in (
-          p .0 ∙ ap (counted s) n ∙ sym (q .0),
-          record {
-            plan = p .1 .plan ∙ sym (q .1 .plan);
-            core = c;
-            unused = same-unused (p .1 .heap) (subst (λ k. Heap (s .width) (cells s) k (a′ .k1) (a′ .k2) (a′ .place) (a′ .list)) (sym n) (q .1 .heap));
-          },
-        )
+        let x = alike a a′ (p .1 .plan ∙ sym (q .1 .plan)) c (p .1 .heap) (q .1 .heap) in
+        (p .0 ∙ ap (counted s) (x .0) ∙ sym (q .0), x .1)
     at (no n) =
         let p = P .refused n in
         let q = Q .refused (λ z. n (e ∙ z)) in

@@ -5,24 +5,14 @@ use mathlib.Core.List.{List}
 use Prim.Native.Nat.{ℕ, _+_, _<_}
 use lib.ListN.{getD, length}
 use Rattle.method.specs.Tables.{anew}
-use Rattle.plan.specs.Cells.{Stays}
-use Rattle.plan.specs.Costs.{IsByte, Obeys}
+use Rattle.plan.specs.Costs.{Obeys}
 use Rattle.plan.specs.Grid.{graphOf}
 use Rattle.tables.specs.declared.Session.{Session}
-use Rattle.tables.specs.Lent.{Tables, cells, floor}
-use Rattle.tables.specs.Sound.{Sound}
+use Rattle.tables.specs.Lent.{cells, floor}
 use Rattle.entries.specs.Aims.{Small, mostG}
 use Rattle.session.specs.declared.Effect.{Effect}
 use Rattle.session.specs.declared.Effect.the-variants.{Keeps, To}
 use Rattle.session.specs.Promises.{Touches}
-
--- A change that no rule refuses.
-pub record Workable (s : Session) (t : Tables) (u d cost : ℕ) : Type 0 where
-  pub sound : Sound s t
-  pub cell-in : u < cells s
-  pub direction : d < 4
-  pub stays-in : Stays (s .width) (s .height) u d
-  pub byte : IsByte cost
 
 -- The plan obeys, the tables that a decision reads have their lengths, every g leaves room for a cost, and both cells are in the plan.
 pub record Deciding (s : Session) (plan g rhs parent : List ℕ) (v u : ℕ) : Type 0 where

@@ -1,6 +1,6 @@
 -- What each call promises: its answer, the record and every table, for every input.
 use mathlib.Core.Path.{_≡_}
-use mathlib.Core.Logic.{_⊎_, _≢_}
+use mathlib.Core.Logic.{_⊎_, _≢_, _↔_}
 use mathlib.Core.List.{List}
 use Prim.Native.Nat.{ℕ, _+_, _*_, _≤_, _<_}
 use lib.ListN.{getD}
@@ -110,8 +110,13 @@ pub record Changes (s : Session) (t : Tables) (u d cost : ℕ) (r : Reply) (t′
 
 -- ---- what a statement leaves open
 
--- Two results with a true heap are equal but for the order inside it: the plan, g, rhs, parents, both keys and who is queued are the same, and so are the unused places of the list.
+-- A used place of the list names cell x.
+abbrev pub Names : ℕ → Tables → ℕ → Type 0
+Names count t x = (i : ℕ) × (i < count) × (getD (t .list) i 0 ≡ x)
+
+-- Two results are equal but for the order inside the heap: the plan, g, rhs, parents, both keys and who is queued are the same; the used places of the list name the same cells; the unused ones are the same.
 pub record Alike (count : ℕ) (t t′ : Tables) : Type 0 where
   pub plan : t .plan ≡ t′ .plan
   pub core : core t ≡ core t′
+  pub named : (x : ℕ) → Names count t x ↔ Names count t′ x
   pub unused : (i : ℕ) → count ≤ i → getD (t .list) i 0 ≡ getD (t′ .list) i 0

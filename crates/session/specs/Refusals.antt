@@ -1,7 +1,7 @@
 -- Document 01's table of refusals: for each call its rules, each with its number, in the order of checking.
 use Prim.Native.Nat.{ℕ, zero, suc, _*_, _<_}
 use Rattle.plan.specs.Cells.{Size, Stays}
-use Rattle.plan.specs.Costs.{planOf, IsByte, Bytes, Edges}
+use Rattle.plan.specs.Costs.{planOf, IsByte, Bytes, Edges, Obeys}
 use Rattle.tables.specs.declared.Session.{Session}
 use Rattle.tables.specs.Lent.{Tables, cells, Fits}
 use Rattle.tables.specs.Sound.{Sound}
@@ -53,3 +53,18 @@ ChangeRules s t u d cost =
     (Ruled (IsMove s u d) 4
     (Ruled (IsByte cost) 5
     Passed)))))
+
+-- What an open that no rule refuses has.
+pub record Openable (width height hunter target : ℕ) (t : Tables) : Type 0 where
+  pub fits : Fits (height * width) t
+  pub hunter-in : hunter < height * width
+  pub target-in : target < height * width
+  pub obeys : Obeys (planOf width height (t .plan))
+
+-- What a change that no rule refuses has; sound tables have their size and lengths.
+pub record Workable (s : Session) (t : Tables) (u d cost : ℕ) : Type 0 where
+  pub sound : Sound s t
+  pub cell-in : u < cells s
+  pub direction : d < 4
+  pub stays-in : Stays (s .width) (s .height) u d
+  pub byte : IsByte cost

@@ -6,9 +6,9 @@ use tables;
 ghost use mathlib.Core.Path.{_≡_};
 ghost use Prim.Native.Nat.{_+_, _*_, _<_};
 ghost use Rattle.tables.specs.Lent.{given, before, after};
-ghost use Rattle.session.specs.Refusals.{PlaceRules, OpenRules, ChangeRules};
+ghost use Rattle.session.specs.Refusals.{PlaceRules, OpenRules, ChangeRules, Workable};
 ghost use Rattle.session.specs.Promises.{hunterAt, targetAt, Places, Opens, WorkedIn, Changes};
-ghost use Rattle.session.specs.Effects.{Workable, Deciding, Asked};
+ghost use Rattle.session.specs.Effects.{Deciding, Asked};
 
 // Done, or refused with document 01's number.
 pub enum Answer {
