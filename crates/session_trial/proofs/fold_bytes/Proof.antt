@@ -1,0 +1,53 @@
+-- The measure is what is left of the table.
+use Prim.Native.Nat.{_-_, _≤_}
+use mathlib.Core.Path.{_≡_, refl}
+use native.Mathlib.Omega.{arith}
+use borrow.Author.Needs.{needs}
+use lib.ListN.{length}
+use Rattle.session_trial.proofs.fold_bytes.Statement.{statement}
+use Rattle.session_trial.proofs.fold_bytes.Tie as tie
+
+abbrev Inv-loop : tie.InvT-loop
+Inv-loop t seen₀ i₀ seen i = length t ≡ length t
+
+abbrev μ-loop : tie.MeasureT-loop
+μ-loop t seen₀ i₀ seen i = length t - i
+
+loop-holds : tie.Need-loop-holds Inv-loop μ-loop
+loop-holds c = refl
+
+shared-slice-read-of-byte : tie.Need-shared-slice-read-of-byte Inv-loop μ-loop
+shared-slice-read-of-byte c = search needs
+
+of-byte-requires : tie.Need-of-byte-requires Inv-loop μ-loop
+of-byte-requires c κs = search needs
+
+fold-requires : tie.Need-fold-requires Inv-loop μ-loop
+fold-requires c κs = search needs
+
+add-i : tie.Need-add-i Inv-loop μ-loop
+add-i c = search needs
+
+loop-less : tie.Need-loop-less Inv-loop μ-loop
+loop-less c = search needs
+
+loop-again : tie.Need-loop-again Inv-loop μ-loop
+loop-again c = search needs
+
+returns : tie.Need-returns Inv-loop μ-loop
+returns c = search needs
+
+pub fold-bytes-spec : {M : Type 1} → statement M
+fold-bytes-spec =
+    tie.close
+    (tie.spec
+    Inv-loop
+    μ-loop
+    loop-holds
+    shared-slice-read-of-byte
+    of-byte-requires
+    fold-requires
+    add-i
+    loop-less
+    loop-again
+    returns)
