@@ -14,21 +14,16 @@ use Rattle.tables.specs.Lent.{Tables, cells, graph, session, core, Fits}
 use Rattle.tables.specs.Sound.{Sound}
 use Rattle.entries.specs.declared.Aim.{Aim}
 use Rattle.entries.specs.Aims.{area}
-use Rattle.session.specs.Refusals.{Ruled, Passed}
+use Rattle.session.specs.Refusals.{Ruled, Passed, TableRules}
 use Rattle.way.specs.Way.{Leading, Shows}
 use Rattle.search.specs.declared.Answer.{Answer}
 use Rattle.search.specs.declared.Answer.the-variants.{NoWay, Way, Refused}
 use Rattle.search.specs.declared.Outcome.{Outcome}
 use Rattle.search.specs.Answer.{answerOf, cellsOf}
 
--- "width or height not 1 to 64"; "a table is not of its length"; "tables not sound"; "way list shorter than N".
+-- The tables of the session; "way list shorter than N".
 abbrev pub SearchRules : Session → Tables → List ℕ → ℕ → Type 0
-SearchRules s t way =
-    Ruled (Size (s .width) (s .height)) 1
-    (Ruled (Fits (cells s) t) 2
-    (Ruled (Sound s t) 6
-    (Ruled (cells s ≤ length way) 7
-    Passed)))
+SearchRules s t way = TableRules s t (Ruled (cells s ≤ length way) 7 Passed)
 
 -- The method's search of these tables: "One search" of document 01.
 abbrev pub outcome : Session → Tables → method.Outcome

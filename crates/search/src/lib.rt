@@ -1,9 +1,8 @@
 // One search: the refusals, the take-over, the steps, and the answer with its way.
 use entries;
 use entries::Aim;
-use plan;
+use session;
 use steps;
-use tables;
 use tables::Session;
 use take_over;
 use way;
@@ -42,14 +41,9 @@ fn refusal(
 ) -> u8
     ensures { λ r. ⌜ SearchRules s (before plan g rhs parent k1 k2 place list) (now (way .entry)) r ⌝ }
 {
-    if !plan::is_size(s.width, s.height) {
-        return 1;
-    }
-    if !tables::lengths_hold(s.width, s.height, plan, g, rhs, parent, k1, k2, place, list) {
-        return 2;
-    }
-    if !tables::is_sound(s, plan, g, rhs, parent, k1, k2, place, list) {
-        return 6;
+    let number = session::table_refusal(s, plan, g, rhs, parent, k1, k2, place, list);
+    if number != 0 {
+        return number;
     }
     if way.len() < s.height * s.width {
         return 7;
@@ -76,8 +70,8 @@ fn answered(a: Aim, ran: steps::Ran, rhs: &[u32], parent: &[u8], way: &mut [u16]
     Answer::Way(far - near, ran.steps, shown)
 }
 
-// A search over sound tables.
-fn seek(
+// A search of sound tables: for a caller who knows that they are, so that the check is not paid.
+pub fn search_sound(
     s: Session,
     plan: &[u8],
     g: &mut [u32],
@@ -130,5 +124,5 @@ pub fn search(
             answer: Answer::Refused(number),
         };
     }
-    seek(s, plan, g, rhs, parent, k1, k2, place, list, way)
+    search_sound(s, plan, g, rhs, parent, k1, k2, place, list, way)
 }

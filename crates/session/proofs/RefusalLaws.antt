@@ -6,8 +6,10 @@ use native.Mathlib.Omega.{arith}
 use Rattle.plan.specs.Cells.{Size}
 use Rattle.tables.specs.declared.Session.{Session}
 use Rattle.tables.specs.Lent.{Tables, cells, Fits}
+use Rattle.tables.specs.Sound.{Sound}
+use Rattle.tables.proofs.SoundLaws.{sound-fits}
 use Rattle.session.specs.declared.Answer.the-variants.{Done, Refused}
-use Rattle.session.specs.Refusals.{Ruled, fails, holds, Passed, passed, answered, PlaceRules, OpenRules, ChangeRules, Openable, Workable}
+use Rattle.session.specs.Refusals.{Ruled, fails, holds, Passed, passed, answered, PlaceRules, OpenRules, TableRules, MoveRules, ChangeRules, Openable, Workable}
 
 -- ---- answers
 
@@ -81,3 +83,24 @@ open-passes r o = passed-zero (onward (o .obeys .bytes) (onward (o .obeys .edges
 
 pub change-passes : {s : Session} {t : Tables} {u d cost k : ℕ} → ChangeRules s t u d cost k → Fits (cells s) t → Workable s t u d cost → k ≡ 0
 change-passes r f w = passed-zero (onward (w .byte) (onward (w .direction, w .stays-in) (onward (w .cell-in) (onward (w .sound) (onward f (onward (w .sound .plan .size) r))))))
+
+-- ---- rules one after the other
+
+-- Tables that break a rule break the same one whatever rules follow ..
+further : {P : Type 0} {n : ℕ} {rest rest′ : ℕ → Type 0} {k : ℕ} → (rest k → k ≢ 0 → rest′ k) → Ruled P n rest k → k ≢ 0 → Ruled P n rest′ k
+further next (fails a) n = fails a
+further next (holds p r) n = holds p (next r n)
+
+passed-not : {P : Type 0} {k : ℕ} → Passed k → k ≢ 0 → P
+passed-not p n = absurd (n (passed-zero p))
+
+pub table-number : {s : Session} {t : Tables} {rest : ℕ → Type 0} {k : ℕ} → TableRules s t Passed k → k ≢ 0 → TableRules s t rest k
+table-number = further (further (further passed-not))
+
+-- .. and sound tables leave it to those.
+pub sound-rules : {s : Session} {t : Tables} {rest : ℕ → Type 0} {k : ℕ} → Sound s t → rest k → TableRules s t rest k
+sound-rules S r = holds (S .plan .size) (holds (sound-fits S) (holds S r))
+
+-- Tables that break no rule are sound.
+pub tables-granted : {s : Session} {t : Tables} {k : ℕ} → TableRules s t Passed k → k ≡ 0 → Sound s t
+tables-granted r e = granted (granted (granted r e .1) e .1) e .0

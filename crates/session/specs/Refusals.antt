@@ -43,16 +43,25 @@ OpenRules width height hunter target t =
 abbrev pub IsMove : Session → ℕ → ℕ → Type 0
 IsMove s u d = (d < 4) × Stays (s .width) (s .height) u d
 
--- A change: the size; the lengths; "tables not sound"; the cell; "direction above 3, or the move leaves the plan"; the cost byte.
-abbrev pub ChangeRules : Session → Tables → ℕ → ℕ → ℕ → ℕ → Type 0
-ChangeRules s t u d cost =
+-- The tables of a session: the size; the lengths; "tables not sound".
+abbrev pub TableRules : Session → Tables → (ℕ → Type 0) → ℕ → Type 0
+TableRules s t rest =
     Ruled (Size (s .width) (s .height)) 1
     (Ruled (Fits (cells s) t) 2
     (Ruled (Sound s t) 6
-    (Ruled (u < cells s) 3
+    rest))
+
+-- A move's new cost: the cell; "direction above 3, or the move leaves the plan"; the cost byte.
+abbrev pub MoveRules : Session → ℕ → ℕ → ℕ → ℕ → Type 0
+MoveRules s u d cost =
+    Ruled (u < cells s) 3
     (Ruled (IsMove s u d) 4
     (Ruled (IsByte cost) 5
-    Passed)))))
+    Passed))
+
+-- A change: its tables, then the move.
+abbrev pub ChangeRules : Session → Tables → ℕ → ℕ → ℕ → ℕ → Type 0
+ChangeRules s t u d cost = TableRules s t (MoveRules s u d cost)
 
 -- What an open that no rule refuses has.
 pub record Openable (width height hunter target : ℕ) (t : Tables) : Type 0 where

@@ -5,8 +5,10 @@ use plan;
 use tables;
 ghost use mathlib.Core.Path.{_≡_};
 ghost use Prim.Native.Nat.{_+_, _*_, _<_};
+ghost use Rattle.plan.specs.Cells.{Size};
 ghost use Rattle.tables.specs.Lent.{given, before, after};
-ghost use Rattle.session.specs.Refusals.{PlaceRules, OpenRules, ChangeRules, Workable};
+ghost use Rattle.tables.specs.Sound.{Sound};
+ghost use Rattle.session.specs.Refusals.{Passed, PlaceRules, OpenRules, TableRules, MoveRules, Workable};
 ghost use Rattle.session.specs.Promises.{hunterAt, targetAt, Places, Opens, WorkedIn, Changes};
 ghost use Rattle.session.specs.Effects.{Deciding, Asked};
 
@@ -194,8 +196,8 @@ pub fn open(
     }
 }
 
-// The number of the first rule that a change breaks, 0 if none.
-fn change_refusal(
+// The number of the first rule that the tables of a session break, 0 if none.
+pub fn table_refusal(
     s: tables::Session,
     plan: &[u8],
     g: &[u32],
@@ -205,11 +207,8 @@ fn change_refusal(
     k2: &[u32],
     place: &[u16],
     list: &[u16],
-    u: usize,
-    d: usize,
-    cost: u8,
 ) -> u8
-    ensures { λ r. ⌜ ChangeRules s (before plan g rhs parent k1 k2 place list) u d cost r ⌝ }
+    ensures { λ r. ⌜ TableRules s (before plan g rhs parent k1 k2 place list) Passed r ⌝ }
 {
     if !plan::is_size(s.width, s.height) {
         return 1;
@@ -220,6 +219,14 @@ fn change_refusal(
     if !tables::is_sound(s, plan, g, rhs, parent, k1, k2, place, list) {
         return 6;
     }
+    0
+}
+
+// The number of the first rule that a move's new cost breaks, 0 if none.
+fn move_refusal(s: tables::Session, u: usize, d: usize, cost: u8) -> u8
+    requires { ⌜ Size (s .width) (s .height) ⌝ }
+    ensures { λ r. ⌜ MoveRules s u d cost r ⌝ }
+{
     if s.height * s.width <= u {
         return 3;
     }
@@ -325,6 +332,39 @@ fn work_in(
     entries::set_right(a, g, rhs, k1, k2, place, list, s.count, v, at)
 }
 
+// Changes a move in sound tables: for a caller who knows that they are, so that the check is not paid. The promise is that of the call below.
+pub fn change_sound(
+    s: tables::Session,
+    plan: &mut [u8],
+    g: &[u32],
+    rhs: &mut [u32],
+    parent: &mut [u8],
+    k1: &mut [u32],
+    k2: &mut [u32],
+    place: &mut [u16],
+    list: &mut [u16],
+    u: usize,
+    d: usize,
+    cost: u8,
+) -> Reply
+    requires { ⌜ Sound s (given plan g rhs parent k1 k2 place list) ⌝ }
+    ensures { λ r. ⌜ Changes s (before plan g rhs parent k1 k2 place list) u d cost r (after plan g rhs parent k1 k2 place list) ⌝ }
+{
+    let number = move_refusal(s, u, d, cost);
+    if number != 0 {
+        return Reply {
+            session: s,
+            answer: Answer::Refused(number),
+        };
+    }
+    let mut changed = s;
+    changed.count = work_in(s, plan, g, rhs, parent, k1, k2, place, list, u, d, cost);
+    Reply {
+        session: changed,
+        answer: Answer::Done,
+    }
+}
+
 // Changes a move: gives cell u's move in direction d a cost, and works that in.
 pub fn change_move(
     s: tables::Session,
@@ -342,17 +382,12 @@ pub fn change_move(
 ) -> Reply
     ensures { λ r. ⌜ Changes s (before plan g rhs parent k1 k2 place list) u d cost r (after plan g rhs parent k1 k2 place list) ⌝ }
 {
-    let refusal = change_refusal(s, plan, g, rhs, parent, k1, k2, place, list, u, d, cost);
+    let refusal = table_refusal(s, plan, g, rhs, parent, k1, k2, place, list);
     if refusal != 0 {
         return Reply {
             session: s,
             answer: Answer::Refused(refusal),
         };
     }
-    let mut changed = s;
-    changed.count = work_in(s, plan, g, rhs, parent, k1, k2, place, list, u, d, cost);
-    Reply {
-        session: changed,
-        answer: Answer::Done,
-    }
+    change_sound(s, plan, g, rhs, parent, k1, k2, place, list, u, d, cost)
 }

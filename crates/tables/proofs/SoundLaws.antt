@@ -256,3 +256,16 @@ module _ (s : Session) (t : Tables) (z : Size (s .width) (s .height)) (fit : Fit
       alone = record { entry = entry-rule (S .heap) u l; cell = cell-rule (S .heap) u l; value = record { own = own-rule u l; key = key-rule u l } };
       ways = λ d ld. way-rule u d l ld;
     }
+
+-- Sound tables have their lengths.
+pub sound-fits : {s : Session} {t : Tables} → Sound s t → Fits (cells s) t
+sound-fits S = record {
+  plan = S .plan .sized;
+  g = S .numbers .sized .g;
+  rhs = S .numbers .sized .rhs;
+  parent = S .numbers .sized .parent;
+  k1 = S .numbers .sized .k1;
+  k2 = S .numbers .sized .k2;
+  place = S .heap .tables .agree .lengthPlace;
+  list = S .heap .tables .agree .lengthList;
+}

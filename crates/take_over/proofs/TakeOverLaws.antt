@@ -22,6 +22,7 @@ use Rattle.plan.proofs.MoveLaws.{placed}
 use Rattle.tables.specs.declared.Session.{Session}
 use Rattle.tables.specs.Lent.{Tables, tables, cells, floor, graph, session, core, Fits}
 use Rattle.tables.specs.Sound.{Sound}
+use Rattle.tables.proofs.SoundLaws.{sound-fits}
 use Rattle.tables.proofs.WalkLaws.{estimate-at}
 use Rattle.entries.specs.declared.Aim.{Aim}
 use Rattle.entries.specs.Aims as aims
@@ -127,16 +128,7 @@ module _ {s : Session} {t : Tables} (S : Sound s t) where
   pub restarting : Restarting s t
   restarting = record {
     obeys = S .plan;
-    fits = record {
-      plan = S .plan .sized;
-      g = S .numbers .sized .g;
-      rhs = S .numbers .sized .rhs;
-      parent = S .numbers .sized .parent;
-      k1 = S .numbers .sized .k1;
-      k2 = S .numbers .sized .k2;
-      place = S .heap .tables .agree .lengthPlace;
-      list = S .heap .tables .agree .lengthList;
-    };
+    fits = sound-fits S;
     hunter-in = S .numbers .hunter-in;
     target-in = S .numbers .target-in;
   }

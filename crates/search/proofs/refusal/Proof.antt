@@ -1,62 +1,28 @@
 use native.Mathlib.Omega.{arith}
-use borrow.Author.Tests.{not-true, not-false}
-use Rattle.decide.proofs.DecideLaws.{refuted}
 use Rattle.plan.proofs.MoveLaws.{area}
 use Rattle.session.specs.Refusals.{fails, holds, passed}
+use Rattle.session.proofs.RefusalLaws.{table-number, tables-granted, sound-rules}
 use borrow.Author.Needs.{needs}
 use Rattle.search.proofs.refusal.Statement.{statement}
 use Rattle.search.proofs.refusal.Tie as tie
+use Rattle.search.proofs.refusal.Reads as reads
+use Rattle.search.proofs.refusal.Lts as lts
+use Rattle.session.proofs.table_refusal.Reads as table-refusal-reads
 
-is-size-requires : tie.Need-is-size-requires
-is-size-requires c κs = search needs
+table-refusal-requires : tie.Need-table-refusal-requires
+table-refusal-requires c κs = search needs
 
 returns : tie.Need-returns
-returns c = fails (refuted (c .before .is-size .ensures) (not-true _ (c .if1 .taken)))
+returns c = table-number (c .before .table-refusal .ensures) (c .if1 .taken)
 
-lengths-hold-requires : tie.Need-lengths-hold-requires
-lengths-hold-requires c κs = c .before .is-size .ensures .so (not-false _ (c .if1 .left))
+mul-if2 : tie.Need-mul-if2
+mul-if2 c = omega (arith, area (tables-granted (c .before .before .table-refusal .ensures) (c .before .if1 .left) .plan .size))
 
 returns-2 : tie.Need-returns-2
-returns-2 c =
-    let z = c .before .before .before .is-size .ensures .so (not-false _ (c .before .before .if1 .left)) in
-    holds z (fails (refuted (c .before .lengths-hold .ensures) (not-true _ (c .if2 .taken))))
-
-is-sound-requires : tie.Need-is-sound-requires
-is-sound-requires c κs = (c .before .before .before .is-size .ensures .so (not-false _ (c .before .before .if1 .left)), c .before .lengths-hold .ensures .so (not-false _ (c .if2 .left)))
+returns-2 c = sound-rules (tables-granted (c .before .before .before .table-refusal .ensures) (c .before .before .if1 .left)) (fails (λ l. omega (arith, l, c .if2 .taken)))
 
 returns-3 : tie.Need-returns-3
-returns-3 c =
-    let z = c .before .before .before .before .before .is-size .ensures .so (not-false _ (c .before .before .before .before .if1 .left)) in
-    let f = c .before .before .before .lengths-hold .ensures .so (not-false _ (c .before .before .if2 .left)) in
-    holds z (holds f (fails (refuted (c .before .is-sound .ensures) (not-true _ (c .if3 .taken)))))
-
-mul-if4 : tie.Need-mul-if4
-mul-if4 c = omega (arith, area (c .before .before .before .before .before .before .is-size .ensures .so (not-false _ (c .before .before .before .before .before .if1 .left))))
-
-returns-4 : tie.Need-returns-4
-returns-4 c =
-    let z = c .before .before .before .before .before .before .before .is-size .ensures .so (not-false _ (c .before .before .before .before .before .before .if1 .left)) in
-    let f = c .before .before .before .before .before .lengths-hold .ensures .so (not-false _ (c .before .before .before .before .if2 .left)) in
-    let w = c .before .before .before .is-sound .ensures .so (not-false _ (c .before .before .if3 .left)) in
-    holds z (holds f (holds w (fails (λ l. omega (arith, l, c .if4 .taken)))))
-
-returns-5 : tie.Need-returns-5
-returns-5 c =
-    let z = c .before .before .before .before .before .before .before .is-size .ensures .so (not-false _ (c .before .before .before .before .before .before .if1 .left)) in
-    let f = c .before .before .before .before .before .lengths-hold .ensures .so (not-false _ (c .before .before .before .before .if2 .left)) in
-    let w = c .before .before .before .is-sound .ensures .so (not-false _ (c .before .before .if3 .left)) in
-    holds z (holds f (holds w (holds (c .if4 .left) passed)))
+returns-3 c = sound-rules (tables-granted (c .before .before .before .table-refusal .ensures) (c .before .before .if1 .left)) (holds (c .if2 .left) passed)
 
 pub refusal-spec : {M : Type 1} → statement M
-refusal-spec =
-    tie.close
-    (tie.spec
-    is-size-requires
-    returns
-    lengths-hold-requires
-    returns-2
-    is-sound-requires
-    returns-3
-    mul-if4
-    returns-4
-    returns-5)
+refusal-spec = tie.close (tie.spec table-refusal-requires returns mul-if2 returns-2 returns-3)

@@ -34,8 +34,8 @@ same-length-8 c = search needs
 returns : tie.Need-returns
 returns c = record { number = _; rules = c .before .refusal .ensures; refused = λ _. (refl, refl, refl, refl); done = λ e. absurd (c .if1 .taken e) }
 
-seek-requires : tie.Need-seek-requires
-seek-requires c κs = search-granted (c .before .before .before .before .before .before .before .before .before .before .before .before .before .before .before .before .before .before .before .before .before .before .before .before .before .before .before .args .way .now) (c .before .before .before .before .before .before .before .before .before .refusal .ensures) (c .before .before .before .before .before .before .before .before .if1 .left)
+search-sound-requires : tie.Need-search-sound-requires
+search-sound-requires c κs = search-granted (c .before .before .before .before .before .before .before .before .before .before .before .before .before .before .before .before .before .before .before .before .before .before .before .before .before .before .before .args .way .now) (c .before .before .before .before .before .before .before .before .before .refusal .ensures) (c .before .before .before .before .before .before .before .before .if1 .left)
 
 same-length-9 : tie.Need-same-length-9
 same-length-9 c = search needs
@@ -62,7 +62,7 @@ same-length-16 : tie.Need-same-length-16
 same-length-16 c = search needs
 
 returns-2 : tie.Need-returns-2
-returns-2 c = record { number = _; rules = c .before .before .before .before .before .before .before .before .before .before .before .before .before .before .before .before .before .before .before .before .before .before .before .before .before .before .refusal .ensures; refused = λ n. absurd (n (c .before .before .before .before .before .before .before .before .before .before .before .before .before .before .before .before .before .before .before .before .before .before .before .before .before .if1 .left)); done = λ _. c .before .before .before .before .before .before .before .before .before .before .before .before .before .before .before .before .seek .ensures }
+returns-2 c = record { number = _; rules = c .before .before .before .before .before .before .before .before .before .before .before .before .before .before .before .before .before .before .before .before .before .before .before .before .before .before .refusal .ensures; refused = λ n. absurd (n (c .before .before .before .before .before .before .before .before .before .before .before .before .before .before .before .before .before .before .before .before .before .before .before .before .before .if1 .left)); done = λ _. c .before .before .before .before .before .before .before .before .before .before .before .before .before .before .before .before .search-sound .ensures }
 
 pub search-spec : {M : Type 1} → statement M
 search-spec =
@@ -78,7 +78,7 @@ search-spec =
     same-length-7
     same-length-8
     returns
-    seek-requires
+    search-sound-requires
     same-length-9
     same-length-10
     same-length-11

@@ -1,11 +1,15 @@
 use mathlib.Core.Path.{refl}
-use Rattle.session.proofs.RefusalLaws.{answer-refused, answer-done, change-granted}
+use Rattle.session.proofs.RefusalLaws.{answer-refused, table-number, tables-granted}
 use borrow.Author.Needs.{needs}
 use Rattle.session.proofs.change_move.Statement.{statement}
 use Rattle.session.proofs.change_move.Tie as tie
+use Rattle.session.proofs.change_move.Reads as reads
+use Rattle.session.proofs.change_move.Lts as lts
+use Rattle.session.proofs.change_sound.Reads as change-sound-reads
+use Rattle.session.proofs.table_refusal.Reads as table-refusal-reads
 
-change-refusal-requires : tie.Need-change-refusal-requires
-change-refusal-requires c κs = search needs
+table-refusal-requires : tie.Need-table-refusal-requires
+table-refusal-requires c κs = search needs
 
 same-length : tie.Need-same-length
 same-length c = search needs
@@ -29,10 +33,10 @@ same-length-7 : tie.Need-same-length-7
 same-length-7 c = search needs
 
 returns : tie.Need-returns
-returns c = record { number = c .before .change-refusal .result; rules = c .before .change-refusal .ensures; answer = answer-refused _ (c .if1 .taken); refused = λ _. (refl, refl); done = λ z. absurd (c .if1 .taken z) }
+returns c = record { number = c .before .table-refusal .result; rules = table-number (c .before .table-refusal .ensures) (c .if1 .taken); answer = answer-refused _ (c .if1 .taken); refused = λ _. (refl, refl); done = λ z. absurd (c .if1 .taken z) }
 
-work-in-requires : tie.Need-work-in-requires
-work-in-requires c κs = change-granted (c .before .before .before .before .before .before .before .before .change-refusal .ensures) (c .before .before .before .before .before .before .before .if1 .left)
+change-sound-requires : tie.Need-change-sound-requires
+change-sound-requires c κs = tables-granted (c .before .before .before .before .before .before .before .before .table-refusal .ensures) (c .before .before .before .before .before .before .before .if1 .left)
 
 same-length-8 : tie.Need-same-length-8
 same-length-8 c = search needs
@@ -56,13 +60,13 @@ same-length-14 : tie.Need-same-length-14
 same-length-14 c = search needs
 
 returns-2 : tie.Need-returns-2
-returns-2 c = record { number = c .before .before .before .before .before .before .before .before .before .before .before .before .before .before .before .before .before .before .before .before .before .before .before .change-refusal .result; rules = c .before .before .before .before .before .before .before .before .before .before .before .before .before .before .before .before .before .before .before .before .before .before .before .change-refusal .ensures; answer = answer-done _ (c .before .before .before .before .before .before .before .before .before .before .before .before .before .before .before .before .before .before .before .before .before .before .if1 .left); refused = λ n. absurd (n (c .before .before .before .before .before .before .before .before .before .before .before .before .before .before .before .before .before .before .before .before .before .before .if1 .left)); done = λ _. (refl, c .before .before .before .before .before .before .before .before .before .before .before .before .before .before .work-in .ensures) }
+returns-2 c = search needs
 
 pub change-move-spec : {M : Type 1} → statement M
 change-move-spec =
     tie.close
     (tie.spec
-    change-refusal-requires
+    table-refusal-requires
     same-length
     same-length-2
     same-length-3
@@ -71,7 +75,7 @@ change-move-spec =
     same-length-6
     same-length-7
     returns
-    work-in-requires
+    change-sound-requires
     same-length-8
     same-length-9
     same-length-10

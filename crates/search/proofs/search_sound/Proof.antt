@@ -2,8 +2,8 @@ use mathlib.Core.Path.{refl, sym, _∙_}
 use native.Mathlib.Omega.{arith}
 use Rattle.search.proofs.SearchLaws.{searched-caught, run-aimed, run-started, few-searches, answering, long-after, searched}
 use borrow.Author.Needs.{needs}
-use Rattle.search.proofs.seek.Statement.{statement}
-use Rattle.search.proofs.seek.Tie as tie
+use Rattle.search.proofs.search_sound.Statement.{statement}
+use Rattle.search.proofs.search_sound.Tie as tie
 
 cast-way : tie.Need-cast-way
 cast-way c = search needs
@@ -63,8 +63,8 @@ same-length-9 c = search needs
 returns-2 : tie.Need-returns-2
 returns-2 c = searched (c .before .before .before .before .before .before .before .before .before .before .before .before .before .before .before .before .before .before .before .before .before .before .before .before .before .before .before .before .before .before .before .before .before .before .before .before .before .before .before .before .before .before .before .before .before .before .before .before .before .before .before .before .before .before .before .before .before .before .before .before .before .before .before .pre .0) (c .before .before .before .before .before .before .before .before .before .before .before .before .before .before .before .before .before .before .before .before .before .before .before .before .before .before .before .before .before .before .before .before .before .before .before .before .before .before .before .before .before .before .before .before .take-over .ensures) (c .before .before .before .before .before .before .before .before .before .before .before .before .before .before .before .before .before .before .before .before .before .before .before .before .before .before .before .before .before .aim-of .ensures) (c .before .before .before .before .before .before .before .before .before .before .before .before .before .before .before .before .before .before .before .before .before .run .ensures) (c .before .before .before .before .before .before .before .before .before .before .before .before .before .before .before .before .before .before .before .before .before .before .before .before .before .before .before .before .before .before .before .before .before .before .before .before .before .before .before .before .before .before .before .before .before .before .before .before .before .before .before .before .if1 .left) (c .before .before .answered .ensures)
 
-pub seek-spec : {M : Type 1} → statement M
-seek-spec =
+pub search-sound-spec : {M : Type 1} → statement M
+search-sound-spec =
     tie.close
     (tie.spec
     cast-way

@@ -1,0 +1,87 @@
+-- Laws of the drill file: what a test chooses, the trailer, the actions and the number of the form.
+use mathlib.Core.Path.{_≡_, refl, sym, ap, _∙_}
+use mathlib.Core.Bool.{true, false, Bool-discrete}
+use mathlib.Core.Logic.{⊎-elim, Dec·and}
+use mathlib.Core.List.{List, [], _∷_}
+use Prim.Native.Nat.{ℕ, zero, suc, _+_, _*_, _-_, _<_, _≤_}
+use native.Mathlib.Decide.{ℕ-discrete}
+use native.Mathlib.Nat.{add-assoc}
+use native.Mathlib.Omega.{arith}
+use lib.ListN.{length, getD}
+use Rattle.method.specs.Tables.{choose}
+use Rattle.method.proofs.Choices.{choose-yes, choose-no}
+use types.Run.{OneOf}
+use denote.Enum.Declared.{tagOf}
+use Rattle.drill_file.specs.declared.Action.{Action}
+use Rattle.drill_file.specs.declared.Action.the-variants.{Change, Hunter, Target, Search, Bad}
+use Rattle.drill_file.specs.declared.Trailer.{Trailer}
+use Rattle.drill_file.specs.File.{two, trailerAt, trailerOf, cells, actionAt, actionsFrom, wellFormed, isSize, formNumber}
+use Rattle.drill_file.proofs.Action.{the-type}
+
+-- Where a test holds, what equals the first of two equals their choice ..
+pub chosen : {A P : Type 0} (d : Dec P) {a x : A} (b : A) → P → x ≡ a → x ≡ choose d a b
+chosen d b p e = e ∙ sym (choose-yes d _ b p)
+
+-- .. and where it fails, what equals the second.
+pub passed-by : {A P : Type 0} (d : Dec P) (a : A) {b x : A} → (P → ⊥) → x ≡ b → x ≡ choose d a b
+passed-by d a n e = e ∙ sym (choose-no d a _ n)
+
+-- A trailer whose numbers were read one by one is the trailer at that place.
+pub trailer-read : (file : List ℕ) (at hunter target actions low high : ℕ)
+    → hunter ≡ two file (at + 2) → target ≡ two file (at + 4) → actions ≡ two file (at + 6) → low ≡ two file (at + 8) → high ≡ two file (at + 10)
+    → _≡_ {A = Trailer} (record { width = getD file at 0; height = getD file (at + 1) 0; hunter = hunter; target = target; actions = actions; offset = low + 65536 * high }) (trailerAt file at)
+trailer-read file at hunter target actions low high h t a l g = rw (h, t, a, l, g, add-assoc at 8 2)
+
+-- One action that is not badly formed, by its variant's number, does not change whether all are well formed.
+well-more : (a : Action) (l : List Action) → OneOf (0 ∷ 1 ∷ 2 ∷ 3 ∷ []) (tagOf the-type a) → wellFormed (a ∷ l) ≡ wellFormed l
+unfolding wellFormed
+well-more (Change u d cost) l k = refl
+well-more (Hunter s) l k = refl
+well-more (Target s) l k = refl
+well-more Search l k = refl
+well-more Bad l k = absurd (none k)
+  where
+    none : OneOf (0 ∷ 1 ∷ 2 ∷ 3 ∷ []) 4 → ⊥
+    none k = ⊎-elim (λ e. omega (arith, e)) (⊎-elim (λ e. omega (arith, e)) (⊎-elim (λ e. omega (arith, e)) (λ e. omega (arith, e)))) k
+
+module _ (file : List ℕ) (at : ℕ) where
+  -- The first of some actions, and those after it.
+  first : (n : ℕ) → 0 < n → actionsFrom file at n ≡ actionAt file at ∷ actionsFrom file (at + 5) (n - 1)
+  unfolding actionsFrom
+  first zero l = absurd (omega arith)
+  first (suc n) l = let e : suc n - 1 ≡ n = omega arith in rw e
+
+  -- Past an action that is not badly formed, the rest decides ..
+  pub goes-on : (n : ℕ) {a : Action} → 0 < n → a ≡ actionAt file at → OneOf (0 ∷ 1 ∷ 2 ∷ 3 ∷ []) (tagOf the-type a) → wellFormed (actionsFrom file at n) ≡ wellFormed (actionsFrom file (at + 5) (n - 1))
+  goes-on n {a} l e k = rw (first n l, ← e) (well-more a _ k)
+
+  -- .. a badly formed action decides by itself ..
+  pub stops : (n : ℕ) {a : Action} → 0 < n → a ≡ actionAt file at → a ≡ Bad → wellFormed (actionsFrom file at n) ≡ false
+  unfolding wellFormed
+  stops n l e b = rw (first n l, ← e, b)
+
+  -- .. and where none is left, all were well formed.
+  pub ends : (n : ℕ) → n ≤ 0 → wellFormed (actionsFrom file at n) ≡ true
+  unfolding actionsFrom wellFormed
+  ends zero l = refl
+  ends (suc n) l = absurd (omega arith)
+
+-- The number of the first rule that fails after the file's length, at a trailer that was read.
+abbrev pub numberAt : List ℕ → Trailer → ℕ
+numberAt file t =
+    choose (isSize (t .width) (t .height))
+    (choose (Dec·and (ℕ-discrete (t .offset) (4 * cells t)) (ℕ-discrete (length file) (t .offset + 5 * t .actions + 12)))
+    (choose (Bool-discrete (wellFormed (actionsFrom file (t .offset) (t .actions))) true) 0
+    8)
+    8)
+    1
+
+module _ (file : List ℕ) {t : Trailer} where
+  -- Where the length is right, the rules after it give the number.
+  pub form-of : {k : ℕ} → 12 ≤ length file → length file ≤ 65536 → t ≡ trailerOf file → k ≡ numberAt file t → k ≡ formNumber file
+  unfolding formNumber
+  form-of l h e n = chosen _ _ (l, h) (n ∙ ap (numberAt file) e)
+
+  -- A trailer's number of actions has two bytes.
+  pub actions-few : ((i : ℕ) → getD file i 0 < 256) → t ≡ trailerOf file → t .actions < 65536
+  actions-few b e = omega (arith, b (length file - 12 + 6), b (length file - 12 + 6 + 1), ap (λ (t : Trailer). t .actions) e)

@@ -1,0 +1,163 @@
+// The drill file: its trailer, its actions through a reader, and whether it is well formed.
+use plan;
+ghost use mathlib.Core.Path.{_≡_};
+ghost use Prim.Native.Nat.{_+_, _*_, _≤_};
+ghost use lib.ListN.{length};
+ghost use Rattle.drill_file.specs.File.{two, trailerOf, actionOf, actionAt, actionsFrom, wellFormed, formNumber};
+
+// What the last 12 bytes say.
+pub struct Trailer {
+    pub width: usize,
+    pub height: usize,
+    pub hunter: usize,
+    pub target: usize,
+    pub actions: usize,
+    pub offset: usize,
+}
+
+// A change of cell, direction and cost; the hunter or the target placed on a cell; a search; or badly formed.
+pub enum Action {
+    Change(usize, usize, u8),
+    Hunter(usize),
+    Target(usize),
+    Search,
+    Bad,
+}
+
+// A number of two bytes, low byte first.
+fn two_at(file: &[u8], at: usize) -> usize
+    requires { ⌜ at + 2 ≤ length (now file) ⌝ }
+    ensures { λ r. ⌜ r ≡ two (now (file .entry)) at ⌝ }
+{
+    let low = file[at] as usize;
+    let high = file[at + 1] as usize;
+    low + 256 * high
+}
+
+// The trailer of a file.
+pub fn trailer_of(file: &[u8]) -> Trailer
+    requires { ⌜ 12 ≤ length (now file) ⌝ }
+    ensures { λ r. ⌜ r ≡ trailerOf (now (file .entry)) ⌝ }
+{
+    let at = file.len() - 12;
+    Trailer {
+        width: file[at] as usize,
+        height: file[at + 1] as usize,
+        hunter: two_at(file, at + 2),
+        target: two_at(file, at + 4),
+        actions: two_at(file, at + 6),
+        offset: two_at(file, at + 8) + 65536 * two_at(file, at + 10),
+    }
+}
+
+// The action that its parts say.
+fn action_of(kind: u8, cell: usize, d: u8, cost: u8) -> Action
+    ensures { λ r. ⌜ r ≡ actionOf kind cell d cost ⌝ }
+{
+    if kind == 1 {
+        return Action::Change(cell, d as usize, cost);
+    }
+    if d != 0 {
+        return Action::Bad;
+    }
+    if cost != 0 {
+        return Action::Bad;
+    }
+    if kind == 2 {
+        return Action::Hunter(cell);
+    }
+    if kind == 3 {
+        return Action::Target(cell);
+    }
+    if kind != 4 {
+        return Action::Bad;
+    }
+    if cell != 0 {
+        return Action::Bad;
+    }
+    Action::Search
+}
+
+// The action at a place of a file.
+fn action_at(file: &[u8], at: usize) -> Action
+    ensures { λ r. ⌜ r ≡ actionAt (now (file .entry)) at ⌝ }
+{
+    if file.len() < 5 {
+        return Action::Bad;
+    }
+    if file.len() - 5 < at {
+        return Action::Bad;
+    }
+    action_of(file[at], two_at(file, at + 1), file[at + 3], file[at + 4])
+}
+
+// A reader holds the file and its place in it.
+pub struct Reader<'a> {
+    pub file: &'a [u8],
+    pub at: usize,
+}
+
+// A reader at a place of a file.
+pub fn reading<'a>(file: &'a [u8], at: usize) -> Reader<'a>
+    ensures { λ r. ⌜ (r .file ≡ file .entry) × (r .at ≡ at) ⌝ }
+{
+    Reader { file, at }
+}
+
+// The action at the reader's place.
+pub fn next<'a>(r: Reader<'a>) -> Action
+    ensures { λ a. ⌜ a ≡ actionAt (now (r .entry .file)) (r .entry .at) ⌝ }
+{
+    action_at(r.file, r.at)
+}
+
+// The action at a place of a file, through a reader.
+pub fn read(file: &[u8], at: usize) -> Action
+    ensures { λ r. ⌜ r ≡ actionAt (now (file .entry)) at ⌝ }
+{
+    next(reading(file, at))
+}
+
+// Is none of so many actions from a place on badly formed?
+fn well_formed(file: &[u8], from: usize, actions: usize) -> bool
+    requires { ⌜ from + 5 * actions ≤ length (now file) ⌝ }
+    ensures { λ r. ⌜ r ≡ wellFormed (actionsFrom (now (file .entry)) from actions) ⌝ }
+{
+    let mut at = from;
+    let mut left = actions;
+    while 0 < left {
+        if let Action::Bad = read(file, at) {
+            return false;
+        }
+        at += 5;
+        left -= 1;
+    }
+    true
+}
+
+// The number of the first rule that the form of a file breaks, 0 if none.
+pub fn form(file: &[u8]) -> u8
+    ensures { λ r. ⌜ r ≡ formNumber (now (file .entry)) ⌝ }
+{
+    if file.len() < 12 {
+        return 8;
+    }
+    if 65536 < file.len() {
+        return 8;
+    }
+    let t = trailer_of(file);
+    if !plan::is_size(t.width, t.height) {
+        return 1;
+    }
+    let plan_bytes = 4 * (t.height * t.width);
+    if t.offset != plan_bytes {
+        return 8;
+    }
+    if file.len() != t.offset + 5 * t.actions + 12 {
+        return 8;
+    }
+    if !well_formed(file, t.offset, t.actions) {
+        return 8;
+    }
+    0
+}

@@ -1,0 +1,18 @@
+-- An answer known by its name.
+use mathlib.Core.Path.{_≡_, ap}
+use mathlib.Core.List.{List}
+use Prim.Native.Nat.{ℕ}
+use lib.ListN.{take}
+use Rattle.search.specs.Answer.{toldBy}
+use Rattle.search.specs.declared.Answer.{Answer}
+use Rattle.search.specs.declared.Answer.the-variants.{Way}
+use Rattle.lines.specs.Text.{line}
+use Rattle.lines.specs.Put.{Put}
+
+-- The line of the answer that it is.
+pub put-line : {b t : List ℕ} {at r : ℕ} {a is : Answer} (way : List ℕ) → a ≡ is → Put b at (line is (take (toldBy is .cells) way)) r t → Put b at (line a (take (toldBy a .cells) way)) r t
+put-line way e p = rw e p
+
+-- The cells of a way, as they are told.
+pub way-cells : {a : Answer} {cost steps k : ℕ} → a ≡ Way cost steps k → toldBy a .cells ≡ k
+way-cells e = ap (λ x. toldBy x .cells) e

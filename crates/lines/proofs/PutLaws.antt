@@ -1,0 +1,35 @@
+-- Texts put one behind the other.
+use mathlib.Core.Path.{_≡_, refl, sym, ap, _∙_}
+use mathlib.Core.List.{List, [], _∷_, _++_, append-assoc, append-nil}
+use Prim.Native.Nat.{ℕ, _+_, _≤_, _<_}
+use native.Mathlib.Numerals.{add-one}
+use native.Mathlib.Omega.{arith}
+use lib.ListN.{length, take, set, getD, length-append, length-set}
+use lib.Seq.{take-suc, take-suc-set}
+use Rattle.lines.specs.Put.{Put}
+
+-- Nothing is put by leaving the buffer as it is.
+pub put-nothing : (b : List ℕ) (at : ℕ) → Put b at [] at b
+put-nothing b at = record { end = omega arith; stands = sym (append-nil (take at b)); long = refl }
+
+-- A byte stored at the place is put there.
+pub put-byte : (b : List ℕ) (at x : ℕ) → at < length b → Put b at (x ∷ []) (at + 1) (set b at x)
+put-byte b at x l = record { end = refl; stands = rw add-one (take-suc-set b at x l); long = length-set b at x }
+
+-- A text put behind another: both are put, one after the other.
+pub put-then : {b m a x y : List ℕ} {at r q : ℕ} → Put b at x r m → Put m r y q a → Put b at (x ++ y) q a
+put-then {b} {m} {a} {x} {y} {at} p s = record {
+  end = omega (arith, p .end, s .end, length-append x y);
+  stands = s .stands ∙ ap (λ (l : List ℕ). l ++ y) (p .stands) ∙ append-assoc (take at b) x y;
+  long = s .long ∙ p .long;
+}
+
+-- The same text and the same end, written otherwise.
+pub put-as : {b a x y : List ℕ} {at r q : ℕ} → x ≡ y → r ≡ q → Put b at x r a → Put b at y q a
+put-as e f p = rw (← e, ← f) p
+
+-- The next byte of a word stored behind those before it.
+pub put-next : {b a : List ℕ} {at : ℕ} (w : List ℕ) (i : ℕ) → i < length w → at + length w ≤ length b → Put b at (take i w) (at + i) a
+    → Put b at (take (i + 1) w) (at + (i + 1)) (set a (at + i) (getD w i 0))
+put-next {b} {a} {at} w i l room p =
+    put-as (sym (take-suc w i 0 l) ∙ ap (λ k. take k w) (sym (add-one i))) (omega arith) (put-then p (put-byte a (at + i) (getD w i 0) (omega (arith, p .long))))

@@ -1,0 +1,81 @@
+-- The invariant: the first i cells are put. The measure is how many are left.
+use mathlib.Core.Path.{_≡_, refl, ap}
+use Prim.Native.Nat.{_-_, _≤_}
+use native.Mathlib.Omega.{arith}
+use lib.ListN.{getD, take}
+use Rattle.lines.specs.Text.{bytes, spaced}
+use Rattle.lines.specs.Put.{Put}
+use Rattle.lines.proofs.PutLaws.{put-nothing, put-then, put-as}
+use Rattle.lines.proofs.TextLaws.{cell-few, cells-few, cells-more}
+use Rattle.lines.proofs.put_cells.Statement.{statement}
+use Rattle.lines.proofs.put_cells.Tie as tie
+
+abbrev Inv-loop : tie.InvT-loop
+Inv-loop way k text₀ at end₀ i₀ text end i = (i ≤ k) × Put text₀ at (spaced (take i way)) end text
+
+abbrev μ-loop : tie.MeasureT-loop
+μ-loop way k text₀ at end₀ i₀ text end i = k - i
+
+loop-holds : tie.Need-loop-holds Inv-loop μ-loop
+unfolding spaced
+loop-holds c = (omega arith, put-nothing _ _)
+
+put-byte-requires : tie.Need-put-byte-requires Inv-loop μ-loop
+put-byte-requires c κs =
+    let way = c .before .before .before .before .before .args .way .now in
+    let i = c .before .before .loop .i in
+    omega (arith, cells-few way i (λ j. omega (arith, c .before .before .before .before .shared-slice-known .given j)))
+
+mul-put-decimal : tie.Need-mul-put-decimal Inv-loop μ-loop
+mul-put-decimal c = omega arith
+
+shared-slice-read-put-decimal : tie.Need-shared-slice-read-put-decimal Inv-loop μ-loop
+shared-slice-read-put-decimal c = omega arith
+
+cast-put-decimal : tie.Need-cast-put-decimal Inv-loop μ-loop
+cast-put-decimal c = omega (arith, c .shared-slice-known2 .given (c .before .before .before .before .before .before .loop .i))
+
+put-decimal-requires : tie.Need-put-decimal-requires Inv-loop μ-loop
+put-decimal-requires c κs =
+    let way = c .before .before .before .before .before .before .before .before .before .before .args .way .now in
+    let i = c .before .before .before .before .before .before .before .loop .i in
+    omega (arith, cells-few way i (λ j. omega (arith, c .before .before .before .before .before .before .before .before .before .shared-slice-known .given j)), cell-few (getD way i 0) (omega (arith, c .before .shared-slice-known2 .given i)))
+
+add-i : tie.Need-add-i Inv-loop μ-loop
+add-i c = omega arith
+
+loop-less : tie.Need-loop-less Inv-loop μ-loop
+loop-less c = omega arith
+
+loop-again : tie.Need-loop-again Inv-loop μ-loop
+unfolding bytes
+loop-again c =
+    let way = c .before .before .before .before .before .before .before .before .before .before .before .before .before .args .way .now in
+    let i = c .before .before .before .before .before .before .before .before .before .before .loop .i in
+    (omega arith, put-as (cells-more way i (omega arith)) refl (put-then (c .before .before .before .before .before .before .before .before .before .before .loop .inv .1) (put-then (c .before .before .before .before .before .before .before .put-byte .ensures) (c .before .before .put-decimal .ensures))))
+
+same-length : tie.Need-same-length Inv-loop μ-loop
+same-length c = c .before .loop .inv .1 .long
+
+returns : tie.Need-returns Inv-loop μ-loop
+returns c =
+    let all : c .before .loop .i ≡ c .before .before .before .before .args .k = omega arith in
+    put-as (ap (λ j. spaced (take j (c .before .before .before .before .args .way .now))) all) refl (c .before .loop .inv .1)
+
+pub put-cells-spec : {M : Type 1} → statement M
+put-cells-spec =
+    tie.close
+    (tie.spec
+    Inv-loop
+    μ-loop
+    loop-holds
+    put-byte-requires
+    mul-put-decimal
+    shared-slice-read-put-decimal
+    cast-put-decimal
+    put-decimal-requires
+    add-i
+    loop-less
+    loop-again
+    same-length
+    returns)

@@ -1,0 +1,29 @@
+-- The three texts are put one behind the other.
+use native.Mathlib.Omega.{arith}
+use Rattle.lines.specs.Text.{bytes}
+use Rattle.lines.proofs.PutLaws.{put-then}
+use Rattle.lines.proofs.TextLaws.{decimal-few}
+use borrow.Author.Needs.{needs}
+use Rattle.lines.proofs.put_labelled.Statement.{statement}
+use Rattle.lines.proofs.put_labelled.Tie as tie
+
+put-word-requires : tie.Need-put-word-requires
+put-word-requires c κs = search needs
+
+put-decimal-requires : tie.Need-put-decimal-requires
+put-decimal-requires c κs = omega (arith, decimal-few (c .before .before .before .before .before .before .before .args .n))
+
+put-byte-requires : tie.Need-put-byte-requires
+put-byte-requires c κs = omega (arith, decimal-few (c .before .before .before .before .before .before .before .before .before .before .before .args .n))
+
+same-length : tie.Need-same-length
+same-length c = search needs
+
+returns : tie.Need-returns
+unfolding bytes
+returns c = put-then (put-then (c .before .before .before .before .before .before .before .before .before .before .put-word .ensures) (c .before .before .before .before .before .before .put-decimal .ensures)) (c .before .before .put-byte .ensures)
+
+pub put-labelled-spec : {M : Type 1} → statement M
+put-labelled-spec =
+    tie.close
+    (tie.spec put-word-requires put-decimal-requires put-byte-requires same-length returns)

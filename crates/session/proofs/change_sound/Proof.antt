@@ -1,0 +1,58 @@
+use mathlib.Core.Path.{refl}
+use Rattle.session.proofs.RefusalLaws.{answer-refused, answer-done, sound-rules, change-granted}
+use borrow.Author.Needs.{needs}
+use Rattle.session.proofs.change_sound.Statement.{statement}
+use Rattle.session.proofs.change_sound.Tie as tie
+use Rattle.session.proofs.change_sound.Reads as reads
+use Rattle.session.proofs.change_sound.Lts as lts
+use Rattle.session.proofs.move_refusal.Reads as move-refusal-reads
+use Rattle.session.proofs.work_in.Reads as work-in-reads
+
+move-refusal-requires : tie.Need-move-refusal-requires
+move-refusal-requires c κs = c .before .before .before .before .before .before .before .before .pre .plan .size
+
+returns : tie.Need-returns
+returns c = record { number = c .before .move-refusal .result; rules = sound-rules (c .before .before .before .before .before .before .before .before .before .before .pre) (c .before .move-refusal .ensures); answer = answer-refused _ (c .if1 .taken); refused = λ _. (refl, refl); done = λ z. absurd (c .if1 .taken z) }
+
+work-in-requires : tie.Need-work-in-requires
+work-in-requires c κs = change-granted (sound-rules (c .before .before .before .before .before .before .before .before .before .before .before .before .before .before .before .before .before .pre) (c .before .before .before .before .before .before .before .before .move-refusal .ensures)) (c .before .before .before .before .before .before .before .if1 .left)
+
+same-length : tie.Need-same-length
+same-length c = search needs
+
+same-length-2 : tie.Need-same-length-2
+same-length-2 c = search needs
+
+same-length-3 : tie.Need-same-length-3
+same-length-3 c = search needs
+
+same-length-4 : tie.Need-same-length-4
+same-length-4 c = search needs
+
+same-length-5 : tie.Need-same-length-5
+same-length-5 c = search needs
+
+same-length-6 : tie.Need-same-length-6
+same-length-6 c = search needs
+
+same-length-7 : tie.Need-same-length-7
+same-length-7 c = search needs
+
+returns-2 : tie.Need-returns-2
+returns-2 c = record { number = c .before .before .before .before .before .before .before .before .before .before .before .before .before .before .before .before .before .before .before .before .before .before .before .move-refusal .result; rules = sound-rules (c .before .before .before .before .before .before .before .before .before .before .before .before .before .before .before .before .before .before .before .before .before .before .before .before .before .before .before .before .before .before .before .before .pre) (c .before .before .before .before .before .before .before .before .before .before .before .before .before .before .before .before .before .before .before .before .before .before .before .move-refusal .ensures); answer = answer-done _ (c .before .before .before .before .before .before .before .before .before .before .before .before .before .before .before .before .before .before .before .before .before .before .if1 .left); refused = λ n. absurd (n (c .before .before .before .before .before .before .before .before .before .before .before .before .before .before .before .before .before .before .before .before .before .before .if1 .left)); done = λ _. (refl, c .before .before .before .before .before .before .before .before .before .before .before .before .before .before .work-in .ensures) }
+
+pub change-sound-spec : {M : Type 1} → statement M
+change-sound-spec =
+    tie.close
+    (tie.spec
+    move-refusal-requires
+    returns
+    work-in-requires
+    same-length
+    same-length-2
+    same-length-3
+    same-length-4
+    same-length-5
+    same-length-6
+    same-length-7
+    returns-2)

@@ -1,0 +1,55 @@
+use Rattle.decide.proofs.DecideLaws.{refuted}
+use borrow.Author.Tests.{not-true, not-false}
+use Rattle.session.specs.Refusals.{fails, holds, passed}
+use borrow.Author.Needs.{needs}
+use Rattle.session.proofs.table_refusal.Statement.{statement}
+use Rattle.session.proofs.table_refusal.Tie as tie
+use Rattle.session.proofs.table_refusal.Reads as reads
+use Rattle.session.proofs.table_refusal.Lts as lts
+use Rattle.plan.proofs.is_size.Reads as is-size-reads
+use Rattle.tables.proofs.is_sound.Reads as is-sound-reads
+use Rattle.tables.proofs.lengths_hold.Reads as lengths-hold-reads
+
+is-size-requires : tie.Need-is-size-requires
+is-size-requires c κs = search needs
+
+returns : tie.Need-returns
+returns c = fails (refuted (c .before .is-size .ensures) (not-true _ (c .if1 .taken)))
+
+lengths-hold-requires : tie.Need-lengths-hold-requires
+lengths-hold-requires c κs = c .before .is-size .ensures .so (not-false _ (c .if1 .left))
+
+returns-2 : tie.Need-returns-2
+returns-2 c =
+    let z = c .before .before .before .is-size .ensures .so (not-false _ (c .before .before .if1 .left)) in
+    holds z (fails (refuted (c .before .lengths-hold .ensures) (not-true _ (c .if2 .taken))))
+
+is-sound-requires : tie.Need-is-sound-requires
+is-sound-requires c κs =
+    let z = c .before .before .before .is-size .ensures .so (not-false _ (c .before .before .if1 .left)) in
+    let f = c .before .lengths-hold .ensures .so (not-false _ (c .if2 .left)) in
+    (z, f)
+
+returns-3 : tie.Need-returns-3
+returns-3 c =
+    let z = c .before .before .before .before .before .is-size .ensures .so (not-false _ (c .before .before .before .before .if1 .left)) in
+    let f = c .before .before .before .lengths-hold .ensures .so (not-false _ (c .before .before .if2 .left)) in
+    holds z (holds f (fails (refuted (c .before .is-sound .ensures) (not-true _ (c .if3 .taken)))))
+
+returns-4 : tie.Need-returns-4
+returns-4 c =
+    let z = c .before .before .before .before .before .is-size .ensures .so (not-false _ (c .before .before .before .before .if1 .left)) in
+    let f = c .before .before .before .lengths-hold .ensures .so (not-false _ (c .before .before .if2 .left)) in
+    holds z (holds f (holds (c .before .is-sound .ensures .so (not-false _ (c .if3 .left))) passed))
+
+pub table-refusal-spec : {M : Type 1} → statement M
+table-refusal-spec =
+    tie.close
+    (tie.spec
+    is-size-requires
+    returns
+    lengths-hold-requires
+    returns-2
+    is-sound-requires
+    returns-3
+    returns-4)
