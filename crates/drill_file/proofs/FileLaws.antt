@@ -46,7 +46,7 @@ well-more Bad l k = absurd (none k)
 
 module _ (file : List ℕ) (at : ℕ) where
   -- The first of some actions, and those after it.
-  first : (n : ℕ) → 0 < n → actionsFrom file at n ≡ actionAt file at ∷ actionsFrom file (at + 5) (n - 1)
+  pub first : (n : ℕ) → 0 < n → actionsFrom file at n ≡ actionAt file at ∷ actionsFrom file (at + 5) (n - 1)
   unfolding actionsFrom
   first zero l = absurd (omega arith)
   first (suc n) l = let e : suc n - 1 ≡ n = omega arith in rw e

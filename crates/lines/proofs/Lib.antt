@@ -1,3 +1,3 @@
-pub mod PutLaws
 pub mod TextLaws
+pub mod PutLaws
 pub mod AnswerLaws

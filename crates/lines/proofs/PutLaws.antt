@@ -1,12 +1,14 @@
 -- Texts put one behind the other.
 use mathlib.Core.Path.{_≡_, refl, sym, ap, _∙_}
 use mathlib.Core.List.{List, [], _∷_, _++_, append-assoc, append-nil}
-use Prim.Native.Nat.{ℕ, _+_, _≤_, _<_}
+use Prim.Native.Nat.{ℕ, _+_, _/_, _%_, _≤_, _<_}
 use native.Mathlib.Numerals.{add-one}
 use native.Mathlib.Omega.{arith}
 use lib.ListN.{length, take, set, getD, length-append, length-set}
 use lib.Seq.{take-suc, take-suc-set}
+use Rattle.lines.specs.Text.{bytes, decimal, spaced}
 use Rattle.lines.specs.Put.{Put}
+use Rattle.lines.proofs.TextLaws.{decimal-tens, cells-more}
 
 -- Nothing is put by leaving the buffer as it is.
 pub put-nothing : (b : List ℕ) (at : ℕ) → Put b at [] at b
@@ -33,3 +35,12 @@ pub put-next : {b a : List ℕ} {at : ℕ} (w : List ℕ) (i : ℕ) → i < leng
     → Put b at (take (i + 1) w) (at + (i + 1)) (set a (at + i) (getD w i 0))
 put-next {b} {a} {at} w i l room p =
     put-as (sym (take-suc w i 0 l) ∙ ap (λ k. take k w) (sym (add-one i))) (omega arith) (put-then p (put-byte a (at + i) (getD w i 0) (omega (arith, p .long))))
+
+-- The last digit of a number of 64 bits put behind its tens.
+pub put-last-digit : {b m a : List ℕ} {at r q : ℕ} (n : ℕ) → 10 ≤ n → n < 18446744073709551616 → Put b at (decimal (n / 10)) r m → Put m r ((48 + n % 10) ∷ []) q a → Put b at (decimal n) q a
+put-last-digit n l f p s = put-as (decimal-tens n l f) refl (put-then p s)
+
+-- A space and the next cell put behind the cells before it.
+pub put-cell : {b m c a : List ℕ} {at r e q : ℕ} (way : List ℕ) (i : ℕ) → i < length way → Put b at (spaced (take i way)) r m → Put m r (bytes " ") e c → Put c e (decimal (getD way i 0)) q a
+    → Put b at (spaced (take (i + 1) way)) q a
+put-cell way i l p s d = put-as (cells-more way i l) refl (put-then p (put-then s d))

@@ -1,7 +1,7 @@
 -- A text put into a lent buffer.
 use mathlib.Core.Path.{_≡_}
 use mathlib.Core.List.{List, _++_}
-use Prim.Native.Nat.{ℕ, _+_, _≤_}
+use Prim.Native.Nat.{ℕ, _+_}
 use lib.ListN.{length, take}
 
 -- What stands before the place `at` stays, the text follows it, and r is the place behind the text.

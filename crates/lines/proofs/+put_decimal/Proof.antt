@@ -2,8 +2,8 @@
 use mathlib.Core.Path.{refl, ap, _∙_}
 use native.Mathlib.Omega.{arith}
 use lib.ListN.{length}
-use Rattle.lines.proofs.PutLaws.{put-as, put-then}
-use Rattle.lines.proofs.TextLaws.{decimal-one, decimal-tens, decimal-longer}
+use Rattle.lines.proofs.PutLaws.{put-as, put-last-digit}
+use Rattle.lines.proofs.TextLaws.{decimal-one, decimal-longer}
 use Prim.Native.Nat.{ℕ, _<_}
 use borrow.Fn.Kinds.{In}
 use borrow.Fn.PlainCycle.{Measures, is, falls, and}
@@ -47,7 +47,7 @@ put-decimal-put-byte-requires : (t : ℕ) → put-decimal-lts.Need-put-byte-requ
   put-decimal-below t,
   put-decimal.Post,
 ) (put-decimal-at t) put-decimal.Post
-put-decimal-put-byte-requires t c κs = omega (arith, ap length (decimal-one (c .before .before .before .args .n) (c .before .if1 .taken)))
+put-decimal-put-byte-requires t c κs = omega (arith, ap length (decimal-one (c .before .before .before .args .n) (omega arith)))
 
 put-decimal-same-length : (t : ℕ) → put-decimal-lts.Need-same-length (
   put-byte-reads.Asked,
@@ -63,7 +63,7 @@ put-decimal-returns : (t : ℕ) → put-decimal-lts.Need-returns (
   put-decimal-below t,
   put-decimal.Post,
 ) (put-decimal-at t) put-decimal.Post
-put-decimal-returns t c = put-as (decimal-one _ (c .before .before .before .before .if1 .taken)) refl (c .before .before .put-byte .ensures)
+put-decimal-returns t c = put-as (decimal-one (c .before .before .before .before .before .before .args .n) (omega arith)) refl (c .before .before .put-byte .ensures)
 
 put-decimal-put-decimal-requires : (t : ℕ) → put-decimal-lts.Need-put-decimal-requires (
   put-byte-reads.Asked,
@@ -111,7 +111,7 @@ put-decimal-returns-2 : (t : ℕ) → put-decimal-lts.Need-returns-2 (
   put-decimal-below t,
   put-decimal.Post,
 ) (put-decimal-at t) put-decimal.Post
-put-decimal-returns-2 t c = put-as (decimal-tens (c .before .before .before .before .before .before .before .before .before .before .args .n) (omega arith) (omega arith)) refl (put-then (c .before .before .before .before .before .before .put-decimal .ensures) (c .before .before .put-byte2 .ensures))
+put-decimal-returns-2 t c = put-last-digit (c .before .before .before .before .before .before .before .before .before .before .args .n) (omega arith) (omega arith) (c .before .before .before .before .before .before .put-decimal .ensures) (c .before .before .put-byte2 .ensures)
 
 pub +put-decimal-spec : {M : Type 1} → statement M
 +put-decimal-spec = close μ-put-decimal λ t. put-decimal-lts.spec (

@@ -5,8 +5,8 @@ use native.Mathlib.Omega.{arith}
 use lib.ListN.{getD, take}
 use Rattle.lines.specs.Text.{bytes, spaced}
 use Rattle.lines.specs.Put.{Put}
-use Rattle.lines.proofs.PutLaws.{put-nothing, put-then, put-as}
-use Rattle.lines.proofs.TextLaws.{cell-few, cells-few, cells-more}
+use Rattle.lines.proofs.PutLaws.{put-nothing, put-as, put-cell}
+use Rattle.lines.proofs.TextLaws.{cell-few, cells-few}
 use Rattle.lines.proofs.put_cells.Statement.{statement}
 use Rattle.lines.proofs.put_cells.Tie as tie
 
@@ -52,7 +52,7 @@ unfolding bytes
 loop-again c =
     let way = c .before .before .before .before .before .before .before .before .before .before .before .before .before .args .way .now in
     let i = c .before .before .before .before .before .before .before .before .before .before .loop .i in
-    (omega arith, put-as (cells-more way i (omega arith)) refl (put-then (c .before .before .before .before .before .before .before .before .before .before .loop .inv .1) (put-then (c .before .before .before .before .before .before .before .put-byte .ensures) (c .before .before .put-decimal .ensures))))
+    (omega arith, put-cell way i (omega arith) (c .before .before .before .before .before .before .before .before .before .before .loop .inv .1) (c .before .before .before .before .before .before .before .put-byte .ensures) (c .before .before .put-decimal .ensures))
 
 same-length : tie.Need-same-length Inv-loop μ-loop
 same-length c = c .before .loop .inv .1 .long

@@ -1,0 +1,60 @@
+-- The numbers by which a file, open and a change are refused are those of the calls' rules; what a file of right form has.
+use mathlib.Core.Path.{_≡_, refl, sym, ap, _∙_}
+use mathlib.Core.Bool.{true}
+use mathlib.Core.List.{List}
+use Prim.Native.Nat.{ℕ, _+_, _*_, _≤_}
+use native.Mathlib.Omega.{arith}
+use native.Mathlib.Decide.{ℕ-discrete}
+use lib.ListN.{length}
+use Rattle.method.specs.Tables.{choose}
+use Rattle.method.proofs.Choices.{choose-yes, choose-no, choose-is}
+use Rattle.plan.specs.Cells.{Size}
+use Rattle.plan.specs.Costs.{planOf}
+use Rattle.tables.specs.declared.Session.{Session}
+use Rattle.tables.specs.Lent.{Tables, cells, floor, Fits}
+use Rattle.session.specs.Refusals.{Ruled, fails, holds, Passed, MoveRules, OpenRules}
+use Rattle.session.proofs.RefusalLaws.{passed-zero, onward}
+use Rattle.drill_file.specs.File as drill-file
+use Rattle.drill.specs.Numbers.{openNumber, moveNumber}
+use Rattle.drill.specs.Output.{planIn, fileNumber}
+
+-- The number of the first rule that fails is the choice of a test of that rule.
+chosen : {P : Type 0} (test : Dec P) {n k x : ℕ} {rest : ℕ → Type 0} → (rest k → k ≡ x) → Ruled P n rest k → k ≡ choose test x n
+chosen test next (fails a) = sym (choose-no test _ _ a)
+chosen test next (holds p r) = next r ∙ sym (choose-yes test _ _ p)
+
+-- The number of a change.
+pub move-number : (s : Session) (plan : List ℕ) {u d cost k : ℕ} → MoveRules s u d cost k → k ≡ moveNumber (floor s plan) u d cost
+unfolding moveNumber
+move-number s plan = chosen _ (chosen _ (chosen _ passed-zero))
+
+-- The number of open, where the size and the lengths are right.
+pub open-number : {width height hunter target : ℕ} {t : Tables} {k : ℕ} → Size width height → Fits (height * width) t → OpenRules width height hunter target t k → k ≡ openNumber (planOf width height (t .plan)) hunter target
+unfolding openNumber
+open-number z f r = chosen _ (chosen _ (chosen _ passed-zero)) (onward f (onward z r))
+
+-- What a file of right form has: its size, and the lengths of its parts.
+pub record Formed (file : List ℕ) : Type 0 where
+  pub long : 12 ≤ length file
+  pub size : Size (drill-file.trailerOf file .width) (drill-file.trailerOf file .height)
+  pub offset : drill-file.trailerOf file .offset ≡ 4 * drill-file.cells (drill-file.trailerOf file)
+  pub whole : length file ≡ drill-file.trailerOf file .offset + 5 * drill-file.trailerOf file .actions + 12
+
+-- A choice that is 0 chose the first, where the second is not 0.
+granted : {P : Type 0} (test : Dec P) {x n : ℕ} → 1 ≤ n → choose test x n ≡ 0 → P × (x ≡ 0)
+unfolding choose
+granted (yes p) l e = (p, e)
+granted (no a) l e = absurd (omega arith)
+
+pub formed : (file : List ℕ) → drill-file.formNumber file ≡ 0 → Formed file
+unfolding drill-file.formNumber
+formed file e =
+    let a = granted _ (omega arith) e in
+    let b = granted _ (omega arith) (a .1) in
+    let c = granted _ (omega arith) (b .1) in
+    record { long = a .0 .0; size = b .0; offset = c .0 .0; whole = c .0 .1 }
+
+-- The number of a file of right form is open's.
+pub file-number : (file : List ℕ) → drill-file.formNumber file ≡ 0 → fileNumber file ≡ openNumber (planIn file) (drill-file.trailerOf file .hunter) (drill-file.trailerOf file .target)
+unfolding fileNumber
+file-number file e = choose-yes (ℕ-discrete (drill-file.formNumber file) 0) _ _ e

@@ -1,0 +1,58 @@
+use Rattle.drill.proofs.PlayLaws.{change-replied, turns-of}
+use native.Mathlib.Omega.{arith}
+use borrow.Author.Needs.{needs}
+use Rattle.drill.proofs.play_change.Statement.{statement}
+use Rattle.drill.proofs.play_change.Tie as tie
+use Rattle.drill.proofs.play_change.Reads as reads
+use Rattle.drill.proofs.play_change.Lts as lts
+use Rattle.drill.proofs.put_reply.Reads as put-reply-reads
+use Rattle.session.proofs.change_sound.Reads as change-sound-reads
+
+change-sound-requires : tie.Need-change-sound-requires
+change-sound-requires c κs = search needs
+
+put-reply-requires : tie.Need-put-reply-requires
+put-reply-requires c κs = omega (arith, c .before .before .before .before .before .before .before .before .before .before .before .before .before .before .before .before .before .before .before .before .before .before .before .before .before .before .before .before .before .before .before .before .before .pre .text-room)
+
+same-length : tie.Need-same-length
+same-length c = search needs
+
+same-length-2 : tie.Need-same-length-2
+same-length-2 c = search needs
+
+same-length-3 : tie.Need-same-length-3
+same-length-3 c = search needs
+
+same-length-4 : tie.Need-same-length-4
+same-length-4 c = search needs
+
+same-length-5 : tie.Need-same-length-5
+same-length-5 c = search needs
+
+same-length-6 : tie.Need-same-length-6
+same-length-6 c = search needs
+
+same-length-7 : tie.Need-same-length-7
+same-length-7 c = search needs
+
+same-length-8 : tie.Need-same-length-8
+same-length-8 c = search needs
+
+returns : tie.Need-returns
+returns c = turns-of (change-replied (c .before .before .before .before .before .before .before .before .before .before .before .before .before .before .before .before .before .before .before .before .before .before .before .before .before .before .before .before .before .before .before .before .before .before .before .before .pre .sound) (c .before .before .before .before .before .before .before .before .before .before .before .before .before .before .before .before .before .before .change-sound .ensures)) (c .before .before .put-reply .ensures)
+
+pub play-change-spec : {M : Type 1} → statement M
+play-change-spec =
+    tie.close
+    (tie.spec
+    change-sound-requires
+    put-reply-requires
+    same-length
+    same-length-2
+    same-length-3
+    same-length-4
+    same-length-5
+    same-length-6
+    same-length-7
+    same-length-8
+    returns)

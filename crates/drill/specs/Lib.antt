@@ -1,0 +1,6 @@
+-- What a drill means: the numbers by which its calls refuse (Numbers), the standing after each action and the line that it prints (Play),
+-- the whole output of a file (Output), and what the functions that play it promise (Promises).
+pub mod Numbers
+pub mod Play
+pub mod Output
+pub mod Promises

@@ -1,0 +1,60 @@
+-- The actions of a drill, one after the other: what each leaves, and the line that it prints.
+use mathlib.Core.List.{List, [], _∷_, _++_}
+use Prim.Native.Nat.{ℕ, _+_}
+use native.Mathlib.Decide.{ℕ-discrete, decLt}
+use Rattle.method.specs.Tables as method
+use Rattle.method.specs.Session as method-session
+use Rattle.plan.specs.Directions.{opposite}
+use Rattle.plan.specs.Cells.{entered}
+use Rattle.plan.specs.Costs.{Plan, cells, byte, withByte}
+use Rattle.plan.specs.Grid.{graphOf}
+use Rattle.search.specs.Answer.{answerOf, cellsOf}
+use Rattle.drill_file.specs.declared.Action.{Action}
+use Rattle.drill_file.specs.declared.Action.the-variants.{Change, Hunter, Target, Search, Bad}
+use Rattle.lines.specs.Text.{refusedLine, line}
+use Rattle.drill.specs.Numbers.{moveNumber}
+
+-- The plan as it is, and the session with its tables as the method has them.
+pub record Standing : Type 0 where
+  pub plan : Plan
+  pub session : method-session.Session
+  pub tables : method.Tables
+
+abbrev pub standing : Plan → method-session.Session → method.Tables → Standing
+standing p σ T = record { plan = p; session = σ; tables = T }
+
+-- A changed move: the byte, and what the method makes of it on the plan as it then is.
+abbrev pub changed : Standing → ℕ → ℕ → ℕ → Standing
+changed S u d cost =
+    standing (withByte (S .plan) u d cost) (S .session)
+    (method-session.moveChanged (method-session.huntOf (graphOf (withByte (S .plan) u d cost)) (S .session)) (S .tables)
+    (entered (S .plan .width) u d) (opposite d + 1) u (byte (S .plan) u d) cost)
+
+-- What an action leaves, and the line that it prints, if any.
+pub record Turn : Type 0 where
+  pub after : Standing
+  pub line : List ℕ
+
+-- An accepted action prints nothing; "a refused action prints `refused` and the number on a line and the rest goes on".
+abbrev pub accepted : Standing → Turn
+accepted S = record { after = S; line = [] }
+
+abbrev pub refused : Standing → ℕ → Turn
+refused S number = record { after = S; line = refusedLine number }
+
+-- A search prints its answer.
+abbrev pub searched : Plan → method-session.Outcome → Turn
+searched p o = record { after = standing p (o .session) (o .tables); line = line (answerOf (o .answer)) (cellsOf (o .answer)) }
+
+-- One action. A badly formed one is in no file that is played.
+unfoldable pub turn : Standing → Action → Turn
+turn S (Change u d cost) = method.choose (ℕ-discrete (moveNumber (S .plan) u d cost) 0) (accepted (changed S u d cost)) (refused S (moveNumber (S .plan) u d cost))
+turn S (Hunter s) = method.choose (decLt s (cells (S .plan))) (accepted (standing (S .plan) (method-session.hunterPlaced (S .session) s) (S .tables))) (refused S 3)
+turn S (Target s) = method.choose (decLt s (cells (S .plan))) (accepted (standing (S .plan) (method-session.targetPlaced (S .session) s) (S .tables))) (refused S 3)
+turn S Search = searched (S .plan) (method-session.search (graphOf (S .plan)) (S .session) (S .tables))
+turn S Bad = accepted S
+
+-- What the actions print, in order.
+unfoldable pub played : Standing → List Action → List ℕ
+played S [] = []
+played S (a ∷ l) = let t = turn S a in t .line ++ played (t .after) l

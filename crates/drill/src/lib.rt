@@ -1,0 +1,259 @@
+// A whole drill: a file opened, and its actions played one after the other, each with the line that it prints.
+use drill_file;
+use lines;
+use search;
+use session;
+use tables::Session;
+ghost use mathlib.Core.Path.{_≡_};
+ghost use Prim.Native.Nat.{_+_, _≤_};
+ghost use lib.ListN.{length, take};
+ghost use Rattle.tables.specs.Lent.{given, before, after};
+ghost use Rattle.lines.specs.Text.{room};
+ghost use Rattle.lines.specs.Put.{Put};
+ghost use Rattle.drill_file.specs.File.{actionAt};
+ghost use Rattle.drill_file.specs.declared.Action.the-variants.{Change, Search};
+ghost use Rattle.drill.specs.Promises.{told, Ready, Turns, Playing, Plays, Opening, Begins};
+
+// What an action leaves: the record, and how much of the text is used.
+pub struct Turned {
+    pub session: Session,
+    pub used: usize,
+}
+
+// What playing leaves: the record, the place in the file, the actions left over, and how much of the text is used.
+pub struct Played {
+    pub session: Session,
+    pub at: usize,
+    pub left: usize,
+    pub used: usize,
+}
+
+// Copies the file's first bytes into the plan.
+fn copy_plan(file: &[u8], plan: &mut [u8])
+    requires { ⌜ length (now plan) ≤ length (now file) ⌝ }
+    ensures { λ _. ⌜ now (plan .exit) ≡ take (length (now (plan .entry))) (now (file .entry)) ⌝ }
+{
+    let mut i = 0;
+    while i < plan.len() {
+        plan[i] = file[i];
+        i += 1;
+    }
+}
+
+// Opens a file of right form.
+pub fn begin(
+    file: &[u8],
+    plan: &mut [u8],
+    g: &mut [u32],
+    rhs: &mut [u32],
+    parent: &mut [u8],
+    k1: &mut [u32],
+    k2: &mut [u32],
+    place: &mut [u16],
+    list: &mut [u16],
+) -> session::Reply
+    requires { ⌜ Opening (now file) (given plan g rhs parent k1 k2 place list) ⌝ }
+    ensures { λ r. ⌜ Begins (now (file .entry)) r (after plan g rhs parent k1 k2 place list) ⌝ }
+{
+    copy_plan(file, plan);
+    let t = drill_file::trailer_of(file);
+    session::open(
+        t.width,
+        t.height,
+        t.hunter,
+        t.target,
+        plan,
+        g,
+        rhs,
+        parent,
+        k1,
+        k2,
+        place,
+        list,
+    )
+}
+
+// Puts the line of a call's reply.
+fn put_reply(reply: session::Reply, text: &mut [u8], used: usize) -> Turned
+    requires { ⌜ used + room 0 ≤ length (now text) ⌝ }
+    ensures { λ r. ⌜ (r .session ≡ reply .session) × Put (now (text .entry)) used (told (reply .answer)) (r .used) (now (text .exit)) ⌝ }
+{
+    let session = reply.session;
+    let answer = reply.answer;
+    let session::Answer::Refused(number) = answer else {
+        return Turned { session, used };
+    };
+    let end = lines::put_refusal(number, text, used);
+    Turned { session, used: end }
+}
+
+// Plays a change.
+fn play_change(
+    s: Session,
+    plan: &mut [u8],
+    g: &[u32],
+    rhs: &mut [u32],
+    parent: &mut [u8],
+    k1: &mut [u32],
+    k2: &mut [u32],
+    place: &mut [u16],
+    list: &mut [u16],
+    u: usize,
+    d: usize,
+    cost: u8,
+    way: &[u16],
+    text: &mut [u8],
+    used: usize,
+) -> Turned
+    requires { ⌜ Ready s (given plan g rhs parent k1 k2 place list) (now way) (now text) used ⌝ }
+    ensures { λ r. ⌜ Turns (Change u d cost) s (before plan g rhs parent k1 k2 place list) (now (text .entry)) used r (after plan g rhs parent k1 k2 place list) (now (text .exit)) ⌝ }
+{
+    let reply = session::change_sound(s, plan, g, rhs, parent, k1, k2, place, list, u, d, cost);
+    put_reply(reply, text, used)
+}
+
+// Plays a search.
+fn play_search(
+    s: Session,
+    plan: &[u8],
+    g: &mut [u32],
+    rhs: &mut [u32],
+    parent: &mut [u8],
+    k1: &mut [u32],
+    k2: &mut [u32],
+    place: &mut [u16],
+    list: &mut [u16],
+    way: &mut [u16],
+    text: &mut [u8],
+    used: usize,
+) -> Turned
+    requires { ⌜ Ready s (given plan g rhs parent k1 k2 place list) (now way) (now text) used ⌝ }
+    ensures { λ r. ⌜ Turns Search s (before plan g rhs parent k1 k2 place list) (now (text .entry)) used r (after plan g rhs parent k1 k2 place list) (now (text .exit)) ⌝ }
+{
+    let found = search::search_sound(s, plan, g, rhs, parent, k1, k2, place, list, way);
+    let session = found.session;
+    let answer = found.answer;
+    let end = lines::put_answer(answer, way, text, used);
+    Turned { session, used: end }
+}
+
+// Plays the action at a place of the file.
+fn play_action(
+    file: &[u8],
+    at: usize,
+    s: Session,
+    plan: &mut [u8],
+    g: &mut [u32],
+    rhs: &mut [u32],
+    parent: &mut [u8],
+    k1: &mut [u32],
+    k2: &mut [u32],
+    place: &mut [u16],
+    list: &mut [u16],
+    way: &mut [u16],
+    text: &mut [u8],
+    used: usize,
+) -> Turned
+    requires { ⌜ Ready s (given plan g rhs parent k1 k2 place list) (now way) (now text) used ⌝ }
+    ensures { λ r. ⌜ Turns (actionAt (now (file .entry)) at) s (before plan g rhs parent k1 k2 place list) (now (text .entry)) used r (after plan g rhs parent k1 k2 place list) (now (text .exit)) ⌝ }
+{
+    let action = drill_file::read(file, at);
+    match action {
+        drill_file::Action::Change(u, d, cost) => {
+            play_change(
+                s,
+                plan,
+                g,
+                rhs,
+                parent,
+                k1,
+                k2,
+                place,
+                list,
+                u,
+                d,
+                cost,
+                way,
+                text,
+                used,
+            )
+        }
+        drill_file::Action::Hunter(cell) => put_reply(session::place_hunter(s, cell), text, used),
+        drill_file::Action::Target(cell) => put_reply(session::place_target(s, cell), text, used),
+        drill_file::Action::Search => {
+            play_search(
+                s,
+                plan,
+                g,
+                rhs,
+                parent,
+                k1,
+                k2,
+                place,
+                list,
+                way,
+                text,
+                used,
+            )
+        }
+        drill_file::Action::Bad => Turned { session: s, used },
+    }
+}
+
+// Plays the actions that are left over, as long as the text has room for the longest line.
+pub fn play(
+    file: &[u8],
+    start: usize,
+    actions: usize,
+    s: Session,
+    plan: &mut [u8],
+    g: &mut [u32],
+    rhs: &mut [u32],
+    parent: &mut [u8],
+    k1: &mut [u32],
+    k2: &mut [u32],
+    place: &mut [u16],
+    list: &mut [u16],
+    way: &mut [u16],
+    text: &mut [u8],
+) -> Played
+    requires { ⌜ Playing (now file) s (given plan g rhs parent k1 k2 place list) (now way) start actions ⌝ }
+    ensures { λ r. ⌜ Plays (now (file .entry)) s (before plan g rhs parent k1 k2 place list) start actions (now (text .entry)) r (after plan g rhs parent k1 k2 place list) (now (text .exit)) ⌝ }
+{
+    let longest = 64 + 6 * (s.height * s.width);
+    let mut session = s;
+    let mut at = start;
+    let mut left = actions;
+    let mut used = 0;
+    while 0 < left {
+        if text.len() - used < longest {
+            break;
+        }
+        let turned = play_action(
+            file,
+            at,
+            session,
+            plan,
+            g,
+            rhs,
+            parent,
+            k1,
+            k2,
+            place,
+            list,
+            way,
+            text,
+            used,
+        );
+        session = turned.session;
+        used = turned.used;
+        at += 5;
+        left -= 1;
+    }
+    Played {
+        session,
+        at,
+        left,
+        used,
+    }
+}
