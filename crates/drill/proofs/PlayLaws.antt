@@ -6,8 +6,8 @@ use Prim.Native.Nat.{ℕ, zero, suc, _+_, _*_, _-_, _≤_, _<_}
 use native.Mathlib.Numerals.{add-one}
 use native.Mathlib.Omega.{arith}
 use native.Mathlib.Decide.{ℕ-discrete, decLt}
-use lib.ListN.{length, take, set, getD, length-append, drop}
-use lib.Seq.{take-suc, take-length, take-all, take-append-seam, length-take-le}
+use lib.ListN.{length, take, set, getD, drop}
+use lib.Seq.{take-suc, take-length, take-append-seam, length-take-le}
 use Rattle.method.specs.Tables.{choose}
 use Rattle.method.specs.Tables as method
 use Rattle.method.specs.Session as method-session
@@ -39,7 +39,7 @@ use Rattle.drill_file.specs.File as drill-file
 use Rattle.drill_file.proofs.FileLaws.{first}
 use Rattle.lines.specs.Text.{refusedLine, line, room}
 use Rattle.lines.specs.Put.{Put}
-use Rattle.lines.proofs.PutLaws.{put-nothing, put-byte, put-then, put-as}
+use Rattle.lines.proofs.PutLaws.{put-nothing, put-byte, put-then, put-as, put-end}
 use Rattle.drill.specs.declared.Turned.{Turned}
 use Rattle.drill.specs.declared.Played.{Played}
 use Rattle.drill.specs.Numbers.{openNumber, moveNumber}
@@ -277,18 +277,6 @@ pub record Going (file : List ℕ) (s : Session) (t : Tables) (start actions : �
 
 pub going-start : {file : List ℕ} {s : Session} {t : Tables} {start actions : ℕ} {text : List ℕ} → Sound s t → Going file s t start actions text s t text start actions 0
 going-start S = record { sound = S; wide = refl; high = refl; long = refl; put = omega arith; place = refl; prints = refl; moved = inl (refl, refl) }
-
--- The place behind a text that was put is in the buffer.
-put-end : {b a x : List ℕ} {at r : ℕ} → Put b at x r a → at ≤ length b → r ≤ length a
-put-end {b} {a} {x} {at} {r} p l =
-    ⊎-elim (λ h. h) (λ h. omega (arith, p .end, ap length (sym (take-all r a h) ∙ p .stands), length-append (take at b) x, length-take-le at b l)) (le-or (length a) r)
-  where
-    le-or : (m n : ℕ) → (n ≤ m) ⊎ (m ≤ n)
-    le-or m n = at′ (decLt m n)
-      where
-        at′ : Dec (m < n) → (n ≤ m) ⊎ (m ≤ n)
-        at′ (yes h) = inr (omega arith)
-        at′ (no h) = inl (omega arith)
 
 -- The next action can be played where the text has room for the longest line.
 pub going-ready : {file : List ℕ} {s : Session} {t : Tables} {start actions : ℕ} {text₀ : List ℕ} {now : Session} {t′ : Tables} {text : List ℕ} {at left used : ℕ}

@@ -4,8 +4,8 @@ use mathlib.Core.List.{List, [], _∷_, _++_, append-assoc, append-nil}
 use Prim.Native.Nat.{ℕ, _+_, _/_, _%_, _≤_, _<_}
 use native.Mathlib.Numerals.{add-one}
 use native.Mathlib.Omega.{arith}
-use lib.ListN.{length, take, set, getD, length-append, length-set}
-use lib.Seq.{take-suc, take-suc-set}
+use lib.ListN.{length, take, set, getD, length-append, length-take, length-set}
+use lib.Seq.{take-suc, take-suc-set, length-take-le}
 use Rattle.lines.specs.Text.{bytes, decimal, spaced}
 use Rattle.lines.specs.Put.{Put}
 use Rattle.lines.proofs.TextLaws.{decimal-tens, cells-more}
@@ -25,6 +25,10 @@ put-then {b} {m} {a} {x} {y} {at} p s = record {
   stands = s .stands ∙ ap (λ (l : List ℕ). l ++ y) (p .stands) ∙ append-assoc (take at b) x y;
   long = s .long ∙ p .long;
 }
+
+-- The place behind a text that was put is in the buffer.
+pub put-end : {b a x : List ℕ} {at r : ℕ} → Put b at x r a → at ≤ length b → r ≤ length a
+put-end {b} {a} {x} {at} {r} p l = omega (arith, p .end, ap length (p .stands), length-append (take at b) x, length-take-le at b l, length-take r a)
 
 -- The same text and the same end, written otherwise.
 pub put-as : {b a x y : List ℕ} {at r q : ℕ} → x ≡ y → r ≡ q → Put b at x r a → Put b at y q a

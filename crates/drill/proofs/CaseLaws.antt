@@ -1,0 +1,41 @@
+-- Document 01's cases hold of the definition of the whole output, by computation.
+use mathlib.Core.Path.{_≡_, refl, _∙_}
+use mathlib.Core.Logic.{Dec·and}
+use mathlib.Core.List.{List, map}
+use Prim.Native.Nat.{ℕ, zero, suc, _<_}
+use native.Mathlib.Omega.{arith}
+use native.Mathlib.Decide.{ℕ-discrete, decLt}
+use Rattle.method.specs.Tables.{choose, firstKey, enter, setRight, better, leastOver, anew, foundAnew}
+use Rattle.method.specs.Steps.{relaxed, relaxedAll, lowered, renewed, renewedAll, raised, stepped}
+use Rattle.method.specs.Loop.{sooner, soonest, leastQueued, goesOn, nextCell, runOn, run}
+use Rattle.method.specs.Session.{blank, fresh, moveChanged, handedOver, takenOver, parentCell, wayFrom, answerOf, search}
+use Rattle.method.proofs.Choices.{choose-yes, choose-no}
+use Rattle.plan.specs.Directions.{shifts}
+use Rattle.plan.specs.Cells.{Stays, stays, estimate}
+use Rattle.plan.specs.Costs.{planOf, isCost}
+use Rattle.plan.specs.Grid.{outBy, intoBy, upTo}
+use Rattle.drill_file.specs.File.{actionOf, actionAt, actionsFrom, wellFormed, isSize, formNumber}
+use Rattle.lines.specs.Text.{bytes, digits, spaced}
+use Rattle.drill.specs.Numbers.{below, isByte, bytesHold, edgeHolds, edgesHold, openNumber, moveNumber}
+use Rattle.drill.specs.Play.{turn, played}
+use Rattle.drill.specs.Output.{fileNumber, output}
+use Rattle.drill.specs.Cases.{cases}
+
+-- Every file of the list prints what the list says.
+pub all-cases : map (λ c. output (c .file)) cases ≡ map (λ c. c .prints) cases
+unfolding choose firstKey enter setRight better leastOver anew foundAnew relaxed relaxedAll lowered renewed renewedAll raised stepped sooner soonest leastQueued goesOn nextCell runOn run blank fresh moveChanged handedOver takenOver parentCell wayFrom answerOf search shifts stays estimate isCost outBy intoBy upTo actionOf actionAt actionsFrom wellFormed isSize formNumber bytes digits spaced below isByte bytesHold edgeHolds edgesHold openNumber moveNumber turn played fileNumber output cases ℕ-discrete decLt Dec·and
+all-cases = refl
+
+-- No move stays in a plan of 1 by 1.
+leaves : (d : ℕ) → (d < 4) × Stays 1 1 0 d → ⊥
+unfolding shifts
+leaves zero h = omega (arith, h .1 .north)
+leaves (suc zero) h = omega (arith, h .1 .east)
+leaves (suc (suc zero)) h = omega (arith, h .1 .south)
+leaves (suc (suc (suc zero))) h = omega (arith, h .1 .west)
+leaves (suc (suc (suc (suc d)))) h = omega (arith, h .0)
+
+-- "Any change of cell 0 there: 4", whatever the direction and the cost.
+pub one-by-one : (plan : List ℕ) (d cost : ℕ) → moveNumber (planOf 1 1 plan) 0 d cost ≡ 4
+unfolding moveNumber
+one-by-one plan d cost = choose-yes _ _ _ (omega arith) ∙ choose-no _ _ _ (leaves d)

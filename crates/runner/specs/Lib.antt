@@ -1,0 +1,2 @@
+-- The runner's own tables.
+pub mod Own
