@@ -11,6 +11,7 @@ use Rattle.session.specs.declared.Reply.{Reply as CallReply}
 use Rattle.session.specs.Promises.{Changes}
 use Rattle.search.specs.declared.Answer.{Answer as SearchAnswer}
 use Rattle.search.specs.declared.Answer.the-variants.{Caught, NoWay, Way, Refused}
+use Rattle.station.specs.declared.Reply.{Reply}
 use Rattle.station.specs.Told.{reply, callNumbers, searchNumbers, byteOf}
 
 -- ---- open, place and change
@@ -18,8 +19,8 @@ use Rattle.station.specs.Told.{reply, callNumbers, searchNumbers, byteOf
 pub done-told : (s : Session) {a : CallAnswer} → a ≡ Done → reply s 0 0 0 0 0 ≡ callNumbers s a
 done-told s e = sym (ap (callNumbers s) e)
 
-pub refused-told : (s : Session) {a : CallAnswer} {n k : ℕ} → a ≡ RefusedCall n → k ≡ n → reply s 4 k 0 0 0 ≡ callNumbers s a
-refused-told s e f = ap (λ (x : ℕ). reply s 4 x 0 0 0) f ∙ sym (ap (callNumbers s) e)
+pub refused-told : (s : Session) {a : CallAnswer} {n : ℕ} {r : Reply} → a ≡ RefusedCall n → r ≡ reply s 4 n 0 0 0 → r ≡ callNumbers s a
+refused-told s e f = f ∙ sym (ap (callNumbers s) e)
 
 -- ---- search
 
@@ -32,8 +33,8 @@ none-told s e = sym (ap (searchNumbers s) e)
 pub way-told : (s : Session) {a : SearchAnswer} {cost c n k : ℕ} → a ≡ Way c n k → cost ≡ c → reply s 1 0 cost n k ≡ searchNumbers s a
 way-told s {n = n} {k = k} e f = ap (λ (x : ℕ). reply s 1 0 x n k) f ∙ sym (ap (searchNumbers s) e)
 
-pub search-refused-told : (s : Session) {a : SearchAnswer} {n k : ℕ} → a ≡ Refused n → k ≡ n → reply s 4 k 0 0 0 ≡ searchNumbers s a
-search-refused-told s e f = ap (λ (x : ℕ). reply s 4 x 0 0 0) f ∙ sym (ap (searchNumbers s) e)
+pub search-refused-told : (s : Session) {a : SearchAnswer} {n : ℕ} {r : Reply} → a ≡ Refused n → r ≡ reply s 4 n 0 0 0 → r ≡ searchNumbers s a
+search-refused-told s e f = f ∙ sym (ap (searchNumbers s) e)
 
 -- ---- a cost
 

@@ -9,7 +9,7 @@ ghost use mathlib.Core.Path.{_≡_};
 ghost use Rattle.tables.specs.Lent.{before, after};
 ghost use Rattle.session.specs.Promises.{hunterAt, targetAt, Places, Opens, Changes};
 ghost use Rattle.search.specs.Promise.{Searches};
-ghost use Rattle.station.specs.Told.{byteOf, callNumbers, searchNumbers, CallTold, SearchTold, Measures};
+ghost use Rattle.station.specs.Told.{reply, byteOf, callNumbers, searchNumbers, CallTold, SearchTold, Measures};
 
 // The kinds of answer.
 const DONE: usize = 0;
@@ -41,14 +41,21 @@ pub struct Lengths {
     pub cells: usize,
 }
 
-// A refusal number as a number that crosses.
-fn refusal_of(number: u8) -> usize
-    ensures { λ r. ⌜ r ≡ number ⌝ }
+// A refusal in numbers: it "carries its number only".
+fn refused(session: Session, number: u8) -> Reply
+    ensures { λ r. ⌜ r ≡ reply session 4 number 0 0 0 ⌝ }
 {
-    number as usize
+    Reply {
+        session,
+        kind: REFUSED,
+        refusal: number as usize,
+        cost: 0,
+        steps: 0,
+        cells: 0,
+    }
 }
 
-// A way's cost likewise.
+// A way's cost as a number that crosses.
 fn cost_of(cost: u32) -> usize
     ensures { λ r. ⌜ r ≡ cost ⌝ }
 {
@@ -71,14 +78,7 @@ fn told(called: session::Reply) -> Reply
             cells: 0,
         };
     };
-    Reply {
-        session,
-        kind: REFUSED,
-        refusal: refusal_of(number),
-        cost: 0,
-        steps: 0,
-        cells: 0,
-    }
+    refused(session, number)
 }
 
 // The answer of a search in numbers.
@@ -119,14 +119,7 @@ fn search_told(called: Outcome) -> Reply
             };
         }
         search::Answer::Refused(number) => {
-            return Reply {
-                session,
-                kind: REFUSED,
-                refusal: refusal_of(number),
-                cost: 0,
-                steps: 0,
-                cells: 0,
-            };
+            return refused(session, number);
         }
     }
 }

@@ -27,11 +27,11 @@ returns-3 c = way-told _ (c .before .before .answer2 .given .1) (c .cost-of .ens
 enum-known-answer-3 : tie.Need-enum-known-answer-3
 enum-known-answer-3 c = search needs
 
-refusal-of-requires : tie.Need-refusal-of-requires
-refusal-of-requires c κs = search needs
+refused-requires : tie.Need-refused-requires
+refused-requires c κs = search needs
 
 returns-4 : tie.Need-returns-4
-returns-4 c = search-refused-told _ (c .before .before .answer3 .given .1) (c .refusal-of .ensures)
+returns-4 c = search-refused-told _ (c .before .before .answer3 .given .1) (c .refused .ensures)
 
 pub search-told-spec : {M : Type 1} → statement M
 search-told-spec =
@@ -45,5 +45,5 @@ search-told-spec =
     cost-of-requires
     returns-3
     enum-known-answer-3
-    refusal-of-requires
+    refused-requires
     returns-4)

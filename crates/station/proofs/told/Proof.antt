@@ -12,11 +12,11 @@ enum-told c = search needs
 returns : tie.Need-returns
 returns c = done-told _ (c .enum-told .given .1)
 
-refusal-of-requires : tie.Need-refusal-of-requires
-refusal-of-requires c κs = search needs
+refused-requires : tie.Need-refused-requires
+refused-requires c κs = search needs
 
 returns-2 : tie.Need-returns-2
-returns-2 c = refused-told _ (c .before .before .answer .given .1) (c .refusal-of .ensures)
+returns-2 c = refused-told _ (c .before .before .answer .given .1) (c .refused .ensures)
 
 pub told-spec : {M : Type 1} → statement M
-told-spec = tie.close (tie.spec enum-known-answer enum-told returns refusal-of-requires returns-2)
+told-spec = tie.close (tie.spec enum-known-answer enum-told returns refused-requires returns-2)
