@@ -2,7 +2,7 @@
 //! after every call: the answer, the record, every table and the way list. Of the queue's list and places the
 //! order is free; which cells they name is compared, and that the library's are a true heap is checked by the model.
 //!
-//! `through_c [TIMES [SEED]]` plays TIMES as much as the test command does (1 if not given), all drawn from SEED.
+//! `through_c [PERCENT [SEED]]` plays so much of what the test command plays (100 if not given), all drawn from SEED.
 //! It prints what it played; at the first difference it prints the call with its tables and fails.
 
 #[path = "../../include/rongdhesi.rs"]
@@ -407,14 +407,14 @@ fn opened<'a>(chance: &mut Chance, counts: &'a mut Counts, part: &'static str, w
 }
 
 /// Sessions of every width and every height from 1 to 64, thin ones among them.
-fn play_sizes(seed: u64, times: u64, counts: &mut Counts) {
+fn play_sizes(seed: u64, percent: u64, counts: &mut Counts) {
     for side in 1..=64 {
         let mut chance = Chance::start(seed, side);
         let drawn = 1 + chance.draw(64);
         for (width, height) in [(side, 1), (1, side), (side, drawn), (drawn, side), (side, side)] {
             let range = [1, 3, 250][chance.draw(3) as usize];
             let mut pair = opened(&mut chance, counts, "sizes", width, height, range);
-            for _ in 0..40 * times {
+            for _ in 0..2 * percent {
                 play_round(&mut chance, &mut pair, range);
             }
         }
@@ -422,8 +422,8 @@ fn play_sizes(seed: u64, times: u64, counts: &mut Counts) {
 }
 
 /// Sessions on small plans, where much happens on few cells.
-fn play_small(seed: u64, times: u64, counts: &mut Counts) {
-    for index in 0..1_500 * times {
+fn play_small(seed: u64, percent: u64, counts: &mut Counts) {
+    for index in 0..60 * percent {
         let mut chance = Chance::start(seed, 1_000 + index);
         let (width, height) = (1 + chance.draw(9), 1 + chance.draw(9));
         let range = [1, 3, 250][chance.draw(3) as usize];
@@ -435,8 +435,8 @@ fn play_small(seed: u64, times: u64, counts: &mut Counts) {
 }
 
 /// More than 1,000 searches in a row: the hunter goes along the way, the target moves, costs change.
-fn play_long(seed: u64, times: u64, counts: &mut Counts) {
-    for index in 0..6 * times {
+fn play_long(seed: u64, percent: u64, counts: &mut Counts) {
+    for index in 0..percent.div_ceil(5) {
         let mut chance = Chance::start(seed, 200_000 + index);
         let (width, height) = if index == 0 { (24, 17) } else { (2 + chance.draw(4), 2 + chance.draw(4)) };
         let (cells, range) = (width * height, [1, 250][chance.draw(2) as usize]);
@@ -461,8 +461,8 @@ fn play_long(seed: u64, times: u64, counts: &mut Counts) {
 }
 
 /// Tables that are sound though no history led there, and a session that goes on from them.
-fn play_made(seed: u64, times: u64, counts: &mut Counts) {
-    for index in 0..6_000 * times {
+fn play_made(seed: u64, percent: u64, counts: &mut Counts) {
+    for index in 0..250 * percent {
         let mut chance = Chance::start(seed, 300_000 + index);
         let most = if index % 50 == 0 { 64 } else { 8 };
         let (width, height) = (1 + chance.draw(most), 1 + chance.draw(most));
@@ -523,8 +523,8 @@ fn flip(side: &mut Side, table: usize, byte: usize, bits: u8) {
 
 /// Each byte of each table and of the record flipped in three ways, and then a change or a search:
 /// on tables that a session left and on made ones.
-fn play_flipped(seed: u64, times: u64, counts: &mut Counts) {
-    for index in 0..60 * times {
+fn play_flipped(seed: u64, percent: u64, counts: &mut Counts) {
+    for index in 0..5 * percent / 2 {
         let mut chance = Chance::start(seed, 400_000 + index);
         let (width, height) = (1 + chance.draw(6), 1 + chance.draw(6));
         let base = if index % 2 == 0 {
@@ -578,9 +578,9 @@ fn ask_lengths() -> u64 {
 fn main() {
     let words: Vec<u64> = std::env::args()
         .skip(1)
-        .map(|word| word.parse().expect("TIMES and SEED are numbers"))
+        .map(|word| word.parse().expect("PERCENT and SEED are numbers"))
         .collect();
-    let times = *words.first().unwrap_or(&1);
+    let percent = *words.first().unwrap_or(&100);
     let seed = *words.get(1).unwrap_or(&1);
     println!("lengths asked for: {} sizes", ask_lengths());
     let parts: [(&str, fn(u64, u64, &mut Counts)); 5] = [
@@ -593,7 +593,7 @@ fn main() {
     let mut all = 0;
     for (name, play) in parts {
         let mut counts = Counts::default();
-        play(seed, times, &mut counts);
+        play(seed, percent, &mut counts);
         println!(
             "{}: {} calls; done, ways, none, caught, refused {:?}; refused by number {:?}; renewals {}, other fresh starts {}, highest search number {}",
             name, counts.calls, counts.kinds, counts.refused, counts.renewals, counts.fresh, counts.highest
