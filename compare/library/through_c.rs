@@ -291,7 +291,7 @@ fn play_spoiled(chance: &mut Chance, pair: &mut Pair, range: u64) {
         _ => pair.model.tables.g[at].wrapping_add(1),
     };
     let byte = 4 * at + chance.draw(4) as usize;
-    let (small, field) = (chance.draw(256) as u8, chance.draw(9));
+    let (small, field) = (chance.draw(256) as u8, chance.draw(13));
     pair.both(|side| match table {
         0 => side.tables.plan[byte] = small,
         1 => side.tables.g[at] = number,
@@ -299,7 +299,14 @@ fn play_spoiled(chance: &mut Chance, pair: &mut Pair, range: u64) {
         3 => side.tables.parent[at] = small % 6,
         4 => side.tables.k1[at] = number,
         5 => side.tables.k2[at] = number,
-        _ => flip(side, 8, RECORD[field as usize].0, 1 + small % 7),
+        _ => match field {
+            // The first number that is no cell.
+            9 => side.session.hunter = cells,
+            10 => side.session.target = cells,
+            11 => side.session.origin = cells,
+            12 => side.session.goal = cells,
+            field => flip(side, 8, RECORD[field as usize].0, 1 + small % 7),
+        },
     });
     let call = if chance.draw(2) == 0 {
         Call::Change { cell: chance.draw(cells), direction: chance.draw(4), cost: draw_cost(chance, range) }
@@ -460,6 +467,19 @@ fn play_long(seed: u64, percent: u64, counts: &mut Counts) {
     }
 }
 
+/// Tables of a plan in which every cell obeys its rules, since nothing is reached, but whose last search had no hunter in the plan.
+fn play_without_hunter(chance: &mut Chance, pair: &mut Pair) {
+    let cells = pair.cells();
+    pair.both(|side| {
+        let t = &mut side.tables;
+        (t.g.fill(INFINITE), t.rhs.fill(INFINITE), t.parent.fill(0), t.k1.fill(0), t.k2.fill(0));
+        (t.place.fill(ABSENT), t.list.fill(ABSENT));
+        (side.session.origin, side.session.count) = (cells, 0);
+    });
+    pair.play(Call::Change { cell: chance.draw(cells), direction: chance.draw(4), cost: 1 });
+    pair.play(Call::Search);
+}
+
 /// Tables that are sound though no history led there, and a session that goes on from them.
 fn play_made(seed: u64, percent: u64, counts: &mut Counts) {
     for index in 0..250 * percent {
@@ -474,6 +494,9 @@ fn play_made(seed: u64, percent: u64, counts: &mut Counts) {
         }
         for _ in 0..12 {
             play_round(&mut chance, &mut pair, 9);
+        }
+        if index % 10 == 0 {
+            play_without_hunter(&mut chance, &mut pair);
         }
     }
 }
