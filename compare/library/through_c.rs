@@ -544,12 +544,13 @@ fn flip(side: &mut Side, table: usize, byte: usize, bits: u8) {
     }
 }
 
-/// Each byte of each table and of the record flipped in three ways, and then a change or a search:
-/// on tables that a session left and on made ones.
+/// Each byte of each table and of the record flipped in three ways, and then a change, a search or a placing:
+/// on tables that a session left and on made ones. Of the full plans among them only some bytes are flipped.
 fn play_flipped(seed: u64, percent: u64, counts: &mut Counts) {
     for index in 0..5 * percent / 2 {
         let mut chance = Chance::start(seed, 400_000 + index);
-        let (width, height) = (1 + chance.draw(6), 1 + chance.draw(6));
+        let full = index % 50 == 49;
+        let (width, height) = if full { (64, 64) } else { (1 + chance.draw(6), 1 + chance.draw(6)) };
         let base = if index % 2 == 0 {
             let (session, tables) = sound_tables(&mut chance, width, height);
             Side { session, tables, way: vec![ABSENT; (width * height) as usize] }
@@ -562,7 +563,7 @@ fn play_flipped(seed: u64, percent: u64, counts: &mut Counts) {
             pair.library
         };
         for table in 0..9 {
-            for byte in 0..bytes_of(&base, table) {
+            for byte in (0..bytes_of(&base, table)).step_by(if full && table < 8 { 199 } else { 1 }) {
                 for bits in [1, 128, 255] {
                     let mut pair = Pair::new(base.clone(), counts, "flipped");
                     pair.both(|side| flip(side, table, byte, bits));
