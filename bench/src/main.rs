@@ -1,0 +1,281 @@
+//! The time of a call, of one process on one set of scenes: the proved library through its C interface, the same in
+//! plain Rust with and without the check of soundness, and A* from scratch. Every answer is compared on the way.
+
+#[path = "../../include/rongdhesi.rs"]
+#[allow(dead_code)]
+mod rongdhesi;
+
+mod a_star;
+mod plain;
+mod scenes;
+
+use std::hint::black_box;
+use std::time::Instant;
+
+use a_star::AStar;
+use plain::Answer;
+use scenes::{Kind, Scene};
+
+/// The library's side of a scene.
+struct Library {
+    session: rongdhesi::Session,
+    plan: Vec<u8>,
+    g: Vec<u32>,
+    rhs: Vec<u32>,
+    parent: Vec<u8>,
+    k1: Vec<u32>,
+    k2: Vec<u32>,
+    place: Vec<u16>,
+    list: Vec<u16>,
+}
+
+/// The tables but the plan, lent one by one so that the plan can be lent beside them.
+macro_rules! lent {
+    ($tables:expr) => {
+        rongdhesi::Lent {
+            g: &mut $tables.g,
+            rhs: &mut $tables.rhs,
+            parent: &mut $tables.parent,
+            k1: &mut $tables.k1,
+            k2: &mut $tables.k2,
+            place: &mut $tables.place,
+            list: &mut $tables.list,
+        }
+    };
+}
+
+impl Library {
+    fn open(side: usize, hunter: usize, target: usize, plan: &[u8]) -> Library {
+        let cells = side * side;
+        let mut library = Library {
+            session: rongdhesi::Session::default(),
+            plan: plan.to_vec(),
+            g: vec![0; cells],
+            rhs: vec![0; cells],
+            parent: vec![0; cells],
+            k1: vec![0; cells],
+            k2: vec![0; cells],
+            place: vec![0; cells],
+            list: vec![0; cells],
+        };
+        let reply = rongdhesi::open(side as u64, side as u64, hunter as u64, target as u64, &library.plan, lent!(library));
+        assert_eq!(reply.kind, rongdhesi::DONE);
+        library.session = reply.session;
+        library
+    }
+
+    fn change_move(&mut self, cell: usize, direction: usize, cost: u8) -> rongdhesi::Reply {
+        let reply = rongdhesi::change_move(self.session, &mut self.plan, lent!(self), cell as u64, direction as u64, cost as u64);
+        self.session = reply.session;
+        reply
+    }
+}
+
+/// Who plays a scene.
+trait Player {
+    fn change(&mut self, cell: usize, direction: usize, cost: u8);
+    /// Searches. Gives the cost of the way, if there is one, and the steps.
+    fn search(&mut self, hunter: usize, target: usize, way: &mut [u16]) -> (Option<u32>, usize);
+}
+
+impl Player for Library {
+    fn change(&mut self, cell: usize, direction: usize, cost: u8) {
+        assert_eq!(self.change_move(cell, direction, cost).kind, rongdhesi::DONE);
+    }
+
+    fn search(&mut self, hunter: usize, target: usize, way: &mut [u16]) -> (Option<u32>, usize) {
+        let placed = rongdhesi::place_hunter(self.session, hunter as u64);
+        let placed = rongdhesi::place_target(placed.session, target as u64);
+        let reply = rongdhesi::search(placed.session, &self.plan, lent!(self), way);
+        self.session = reply.session;
+        match reply.kind {
+            rongdhesi::WAY | rongdhesi::CAUGHT => (Some(reply.cost as u32), reply.steps as usize),
+            rongdhesi::NONE => (None, reply.steps as usize),
+            _ => panic!("refused by {}", reply.refusal),
+        }
+    }
+}
+
+/// The plain Rust version, with or without the check.
+struct Plain<const CHECKED: bool>(plain::Session);
+
+impl<const CHECKED: bool> Player for Plain<CHECKED> {
+    fn change(&mut self, cell: usize, direction: usize, cost: u8) {
+        assert_eq!(self.0.change_move::<CHECKED>(cell, direction, cost), Answer::Done);
+    }
+
+    fn search(&mut self, hunter: usize, target: usize, way: &mut [u16]) -> (Option<u32>, usize) {
+        (self.0.hunter, self.0.target) = (hunter, target);
+        match self.0.search::<CHECKED>(way) {
+            Answer::Way { cost, steps, .. } => (Some(cost), steps),
+            Answer::None { steps } => (None, steps),
+            Answer::Caught => (Some(0), 0),
+            answer => panic!("{:?}", answer),
+        }
+    }
+}
+
+/// A* and the plan that it searches anew each time.
+struct FromScratch(AStar, Vec<u8>);
+
+impl Player for FromScratch {
+    fn change(&mut self, cell: usize, direction: usize, cost: u8) {
+        self.1[4 * cell + direction] = cost;
+    }
+
+    fn search(&mut self, hunter: usize, target: usize, way: &mut [u16]) -> (Option<u32>, usize) {
+        self.0.search(&self.1, hunter, target, way)
+    }
+}
+
+/// What a player needed in a scene, in nanoseconds: for each search, and for the changes before it, ten at a time.
+struct Played {
+    changes: Vec<u64>,
+    searches: Vec<u64>,
+    steps: usize,
+    costs: Vec<Option<u32>>,
+}
+
+fn play(scene: &Scene, player: &mut dyn Player) -> Played {
+    let mut way = vec![0; scene.side * scene.side];
+    let mut played = Played { changes: Vec::new(), searches: Vec::new(), steps: 0, costs: Vec::new() };
+    for turn in &scene.turns {
+        for changes in turn.changes.chunks(10) {
+            let began = Instant::now();
+            for change in changes {
+                player.change(change.cell, change.direction, change.cost);
+            }
+            played.changes.push(began.elapsed().as_nanos() as u64);
+        }
+        let began = Instant::now();
+        let (cost, steps) = player.search(turn.hunter, turn.target, &mut way);
+        played.searches.push(began.elapsed().as_nanos() as u64);
+        played.steps += steps;
+        played.costs.push(cost);
+    }
+    played
+}
+
+/// The sum of all times of a scene, each at its least in any of the runs, so that what else the machine did is left out.
+fn least(runs: &[Played], times: fn(&Played) -> &[u64]) -> f64 {
+    let all = 0..times(&runs[0]).len();
+    all.map(|at| runs.iter().map(|run| times(run)[at]).min().expect("a run")).sum::<u64>() as f64
+}
+
+fn player(scene: &Scene, which: usize) -> Box<dyn Player> {
+    let (side, first) = (scene.side, &scene.turns[0]);
+    let plain = || plain::Session::open(side, side, first.hunter, first.target, scene.plan.clone());
+    match which {
+        0 => Box::new(Library::open(side, first.hunter, first.target, &scene.plan)),
+        1 => Box::new(Plain::<true>(plain())),
+        2 => Box::new(Plain::<false>(plain())),
+        _ => Box::new(FromScratch(AStar::new(side), scene.plan.clone())),
+    }
+}
+
+/// Plays a scene by all in turn, five times, and prints a line.
+fn measure(scene: &Scene) {
+    let mut runs: [Vec<Played>; 4] = Default::default();
+    for _ in 0..5 {
+        for (which, runs) in runs.iter_mut().enumerate() {
+            runs.push(play(scene, &mut *player(scene, which)));
+        }
+    }
+    let first = runs.each_ref().map(|runs| &runs[0]);
+    assert!(first.iter().all(|played| played.costs == first[0].costs), "the answers differ");
+    assert!(first[0].steps == first[1].steps && first[1].steps == first[2].steps, "the steps differ");
+    let steps = first.map(|played| played.steps);
+    let searches = runs.each_ref().map(|runs| least(runs, |played| &played.searches));
+    let changes = runs.each_ref().map(|runs| least(runs, |played| &played.changes));
+    let turns = scene.turns.len() as f64;
+    let calls: usize = scene.turns.iter().map(|turn| turn.changes.len()).sum();
+    let search = searches.map(|time| time / turns / 1e3);
+    let change = changes.map(|time| time / calls.max(1) as f64 / 1e3);
+    print!(
+        "| {0} by {0} | {1} | {2} | {3:.1} | {4:.1} | {5:.2} | {6:.2} | {7:.2} | {8:.2} | {9:.2} | {10:.2} |",
+        scene.side,
+        scene.kind.name(),
+        scene.doors,
+        steps[0] as f64 / turns,
+        steps[3] as f64 / turns,
+        search[0],
+        search[1],
+        search[2],
+        search[3],
+        search[0] / search[1],
+        search[0] / search[3]
+    );
+    if calls == 0 {
+        println!(" - | - | - | - |");
+    } else {
+        println!(" {:.2} | {:.2} | {:.2} | {:.2} |", change[0], change[1], change[2], change[0] / change[1]);
+    }
+}
+
+/// The least time of one run out of many, in microseconds.
+fn least_time<T>(mut run: impl FnMut() -> T) -> f64 {
+    let mut least = u64::MAX;
+    for _ in 0..2_000 {
+        let began = Instant::now();
+        black_box(run());
+        least = least.min(began.elapsed().as_nanos() as u64);
+    }
+    least as f64 / 1e3
+}
+
+/// The check alone: a change of cell N is refused by 3, after all tables were found sound.
+fn measure_check(scene: &Scene) {
+    let cells = scene.side * scene.side;
+    let first = &scene.turns[0];
+    let mut library = Library::open(scene.side, first.hunter, first.target, &scene.plan);
+    let mut rust = plain::Session::open(scene.side, scene.side, first.hunter, first.target, scene.plan.clone());
+    let mut way = vec![0; cells];
+    for turn in &scene.turns {
+        Player::search(&mut library, turn.hunter, turn.target, &mut way);
+        (rust.hunter, rust.target) = (turn.hunter, turn.target);
+        rust.search::<true>(&mut way);
+    }
+    assert_eq!(library.change_move(cells, 0, 1).refusal, 3);
+    assert_eq!(rust.change_move::<true>(cells, 0, 1), Answer::Refused(3));
+    let ours = least_time(|| library.change_move(cells, 0, 1));
+    let theirs = least_time(|| rust.change_move::<true>(cells, 0, 1));
+    let each = least_time(|| rust.read_each());
+    let once = least_time(|| rust.read_once());
+    println!(
+        "| {} by {} | {:.2} | {:.2} | {:.2} | {:.2} | {:.2} | {:.2} | {:.2} |",
+        scene.side,
+        scene.side,
+        ours,
+        theirs,
+        each,
+        once,
+        ours / theirs,
+        ours / each,
+        ours / once
+    );
+}
+
+fn main() {
+    println!("Times of a call in microseconds, each at its least of five runs, in which the four take turns.");
+    println!();
+    println!("| Plan | Kind | Doors a turn | Steps a search | A* expansions | Search: library | Rust, checked | Rust, unchecked | A* | library / Rust checked | library / A* | Change: library | Rust, checked | Rust, unchecked | library / Rust checked |");
+    println!("|---|---|---|---|---|---|---|---|---|---|---|---|---|---|---|");
+    let mut seed = 0;
+    for side in [64, 32, 16] {
+        for kind in [Kind::Shut, Kind::Maze, Kind::Rooms] {
+            for doors in [0, 1, 10, 100] {
+                seed += 1;
+                let turns = if doors == 100 { 40 } else { 200 };
+                measure(&scenes::draw(side, kind, doors, turns, seed));
+            }
+        }
+    }
+    println!();
+    println!("The check alone, the least of 2,000 runs:");
+    println!();
+    println!("| Plan | library | Rust | every entry read, one at a time | every entry read, as the compiler likes | library / Rust | library / one at a time | library / as it likes |");
+    println!("|---|---|---|---|---|---|---|---|");
+    for side in [64, 32, 16] {
+        measure_check(&scenes::draw(side, Kind::Shut, 0, 20, 99));
+    }
+}

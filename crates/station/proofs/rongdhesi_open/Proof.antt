@@ -1,0 +1,48 @@
+use borrow.Author.Needs.{needs}
+use Rattle.station.proofs.rongdhesi_open.Statement.{statement}
+use Rattle.station.proofs.rongdhesi_open.Tie as tie
+
+open-requires : tie.Need-open-requires
+open-requires c κs = search needs
+
+told-requires : tie.Need-told-requires
+told-requires c κs = search needs
+
+same-length : tie.Need-same-length
+same-length c = search needs
+
+same-length-2 : tie.Need-same-length-2
+same-length-2 c = search needs
+
+same-length-3 : tie.Need-same-length-3
+same-length-3 c = search needs
+
+same-length-4 : tie.Need-same-length-4
+same-length-4 c = search needs
+
+same-length-5 : tie.Need-same-length-5
+same-length-5 c = search needs
+
+same-length-6 : tie.Need-same-length-6
+same-length-6 c = search needs
+
+same-length-7 : tie.Need-same-length-7
+same-length-7 c = search needs
+
+returns : tie.Need-returns
+returns c = record { called = c .before .before .before .before .before .before .before .before .before .before .before .before .before .before .before .«open» .result; promised = c .before .before .before .before .before .before .before .before .before .before .before .before .before .before .before .«open» .ensures; told = c .told .ensures }
+
+pub rongdhesi-open-spec : {M : Type 1} → statement M
+rongdhesi-open-spec =
+    tie.close
+    (tie.spec
+    open-requires
+    told-requires
+    same-length
+    same-length-2
+    same-length-3
+    same-length-4
+    same-length-5
+    same-length-6
+    same-length-7
+    returns)

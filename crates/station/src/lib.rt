@@ -1,0 +1,251 @@
+// The library for programs that are not written in Rattle: each public call as a C function, on numbers and lent tables.
+// An enum cannot cross, so an answer is told in numbers. `include/rongdhesi.h` declares all of this for C.
+use plan;
+use search;
+use search::Outcome;
+use session;
+use tables::Session;
+ghost use mathlib.Core.Path.{_≡_};
+ghost use Rattle.tables.specs.Lent.{before, after};
+ghost use Rattle.session.specs.Promises.{hunterAt, targetAt, Places, Opens, Changes};
+ghost use Rattle.search.specs.Promise.{Searches};
+ghost use Rattle.station.specs.Told.{reply, byteOf, callNumbers, searchNumbers, CallTold, SearchTold, Measures};
+
+// The kinds of answer.
+const DONE: usize = 0;
+
+const WAY: usize = 1;
+
+const NO_WAY: usize = 2;
+
+const CAUGHT: usize = 3;
+
+const REFUSED: usize = 4;
+
+// What a call returns: the record as it leaves it, and the answer's five numbers. What an answer lacks is 0.
+#[repr(C)]
+pub struct Reply {
+    pub session: Session,
+    pub kind: usize,
+    pub refusal: usize,
+    pub cost: usize,
+    pub steps: usize,
+    pub cells: usize,
+}
+
+// The lengths that a size gives: the plan's, and that of every other table, which is also the way list's least; or the refusal of the size.
+#[repr(C)]
+pub struct Lengths {
+    pub refusal: usize,
+    pub plan: usize,
+    pub cells: usize,
+}
+
+// A refusal in numbers: it "carries its number only".
+fn refused(session: Session, number: u8) -> Reply
+    ensures { λ r. ⌜ r ≡ reply session 4 number 0 0 0 ⌝ }
+{
+    Reply {
+        session,
+        kind: REFUSED,
+        refusal: number as usize,
+        cost: 0,
+        steps: 0,
+        cells: 0,
+    }
+}
+
+// A way's cost as a number that crosses.
+fn cost_of(cost: u32) -> usize
+    ensures { λ r. ⌜ r ≡ cost ⌝ }
+{
+    cost as usize
+}
+
+// The answer of open, place or change in numbers.
+fn told(called: session::Reply) -> Reply
+    ensures { λ r. ⌜ r ≡ callNumbers (called .session) (called .answer) ⌝ }
+{
+    let session = called.session;
+    let answer = called.answer;
+    let session::Answer::Refused(number) = answer else {
+        return Reply {
+            session,
+            kind: DONE,
+            refusal: 0,
+            cost: 0,
+            steps: 0,
+            cells: 0,
+        };
+    };
+    refused(session, number)
+}
+
+// The answer of a search in numbers.
+fn search_told(called: Outcome) -> Reply
+    ensures { λ r. ⌜ r ≡ searchNumbers (called .session) (called .answer) ⌝ }
+{
+    let session = called.session;
+    let answer = called.answer;
+    match answer {
+        search::Answer::Caught(_) => {
+            return Reply {
+                session,
+                kind: CAUGHT,
+                refusal: 0,
+                cost: 0,
+                steps: 0,
+                cells: 1,
+            };
+        }
+        search::Answer::NoWay(steps) => {
+            return Reply {
+                session,
+                kind: NO_WAY,
+                refusal: 0,
+                cost: 0,
+                steps,
+                cells: 0,
+            };
+        }
+        search::Answer::Way(cost, steps, cells) => {
+            return Reply {
+                session,
+                kind: WAY,
+                refusal: 0,
+                cost: cost_of(cost),
+                steps,
+                cells,
+            };
+        }
+        search::Answer::Refused(number) => {
+            return refused(session, number);
+        }
+    }
+}
+
+// The cost byte that a number gives. A number above 255 is no byte: it is taken as 0, which is refused as no cost.
+fn byte_of(cost: usize) -> u8
+    ensures { λ r. ⌜ r ≡ byteOf cost ⌝ }
+{
+    if 255 < cost {
+        return 0;
+    }
+    cost as u8
+}
+
+// The lengths of the tables for a size.
+#[no_mangle]
+pub extern "C" fn rongdhesi_lengths(width: usize, height: usize) -> Lengths
+    ensures { λ r. ⌜ Measures width height r ⌝ }
+{
+    if !plan::is_size(width, height) {
+        return Lengths {
+            refusal: 1,
+            plan: 0,
+            cells: 0,
+        };
+    }
+    let cells = height * width;
+    Lengths {
+        refusal: 0,
+        plan: 4 * cells,
+        cells,
+    }
+}
+
+// Opens a session on a plan: fills all other tables fresh.
+#[no_mangle]
+pub extern "C" fn rongdhesi_open(
+    width: usize,
+    height: usize,
+    hunter: usize,
+    target: usize,
+    plan: &[u8],
+    g: &mut [u32],
+    rhs: &mut [u32],
+    parent: &mut [u8],
+    k1: &mut [u32],
+    k2: &mut [u32],
+    place: &mut [u16],
+    list: &mut [u16],
+) -> Reply
+    ensures { λ r. ⌜ CallTold (λ x. Opens width height hunter target (before plan g rhs parent k1 k2 place list) x (after plan g rhs parent k1 k2 place list)) r ⌝ }
+{
+    let called = session::open(
+        width,
+        height,
+        hunter,
+        target,
+        plan,
+        g,
+        rhs,
+        parent,
+        k1,
+        k2,
+        place,
+        list,
+    );
+    told(called)
+}
+
+// Places the hunter. The next search takes it over.
+#[no_mangle]
+pub extern "C" fn rongdhesi_place_hunter(s: Session, cell: usize) -> Reply
+    ensures { λ r. ⌜ CallTold (Places s (hunterAt s cell) cell) r ⌝ }
+{
+    let called = session::place_hunter(s, cell);
+    told(called)
+}
+
+// Places the target. The next search takes it over.
+#[no_mangle]
+pub extern "C" fn rongdhesi_place_target(s: Session, cell: usize) -> Reply
+    ensures { λ r. ⌜ CallTold (Places s (targetAt s cell) cell) r ⌝ }
+{
+    let called = session::place_target(s, cell);
+    told(called)
+}
+
+// Changes a move: gives cell u's move in direction d a cost, and works that in.
+#[no_mangle]
+pub extern "C" fn rongdhesi_change_move(
+    s: Session,
+    plan: &mut [u8],
+    g: &[u32],
+    rhs: &mut [u32],
+    parent: &mut [u8],
+    k1: &mut [u32],
+    k2: &mut [u32],
+    place: &mut [u16],
+    list: &mut [u16],
+    u: usize,
+    d: usize,
+    cost: usize,
+) -> Reply
+    ensures { λ r. ⌜ CallTold (λ x. Changes s (before plan g rhs parent k1 k2 place list) u d (byteOf cost) x (after plan g rhs parent k1 k2 place list)) r ⌝ }
+{
+    let byte = byte_of(cost);
+    let called = session::change_move(s, plan, g, rhs, parent, k1, k2, place, list, u, d, byte);
+    told(called)
+}
+
+// Searches a cheapest way and writes its cells into the way list, hunter first.
+#[no_mangle]
+pub extern "C" fn rongdhesi_search(
+    s: Session,
+    plan: &[u8],
+    g: &mut [u32],
+    rhs: &mut [u32],
+    parent: &mut [u8],
+    k1: &mut [u32],
+    k2: &mut [u32],
+    place: &mut [u16],
+    list: &mut [u16],
+    way: &mut [u16],
+) -> Reply
+    ensures { λ r. ⌜ SearchTold (λ x. Searches s (before plan g rhs parent k1 k2 place list) (now (way .entry)) x (after plan g rhs parent k1 k2 place list) (now (way .exit))) r ⌝ }
+{
+    let called = search::search(s, plan, g, rhs, parent, k1, k2, place, list, way);
+    search_told(called)
+}

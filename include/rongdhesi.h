@@ -1,0 +1,144 @@
+/* Rongdhesi: a planner for a hunter and a moving target on a floor plan of at most 64 by 64 cells.
+ *
+ * The functions stand in libstation.a, which `rt staticlib station` builds for x86-64 Linux. Each of them is
+ * proved to end safely for every number given and every content of the lent tables, and to answer as the
+ * library's own call (crates/station, src/lib.rt). A caller owes what no proof can see: every pointer points
+ * to as many entries as the length after it says, aligned for their type, and no two tables overlap.
+ *
+ * This header is kept by hand. It has to say the same as crates/station/src/lib.rt. */
+
+#ifndef RONGDHESI_H
+#define RONGDHESI_H
+
+#include <stddef.h>
+#include <stdint.h>
+
+#ifdef __cplusplus
+extern "C" {
+#endif
+
+/* The least and the greatest width and height. */
+#define RONGDHESI_LEAST_SIDE 1
+#define RONGDHESI_GREATEST_SIDE 64
+
+/* The greatest number of cells, N = width * height. */
+#define RONGDHESI_GREATEST_CELLS 4096
+
+/* Directions: north (row less 1), east (column plus 1), south (row plus 1), west (column less 1). */
+#define RONGDHESI_NORTH 0
+#define RONGDHESI_EAST 1
+#define RONGDHESI_SOUTH 2
+#define RONGDHESI_WEST 3
+
+/* A cost byte is 1 to 250, or 255 for a move that is shut. A move that would leave the plan is 255 for ever. */
+#define RONGDHESI_GREATEST_COST 250
+#define RONGDHESI_SHUT 255
+
+/* The kinds of answer. Open, place and change are done or refused; a search has the other four. */
+#define RONGDHESI_DONE 0
+#define RONGDHESI_WAY 1
+#define RONGDHESI_NONE 2
+#define RONGDHESI_CAUGHT 3
+#define RONGDHESI_REFUSED 4
+
+/* The refusal numbers. Where several apply, the one named first is given; their order is 1 2 6 3 4 5 7 9.
+ * Refusals 1 to 7 change no table and return the record as it came (open: a record of zeros). */
+#define RONGDHESI_REFUSED_SIZE 1    /* width or height not 1 to 64 */
+#define RONGDHESI_REFUSED_LENGTH 2  /* a table is not of its length */
+#define RONGDHESI_REFUSED_CELL 3    /* a given cell is N or more */
+#define RONGDHESI_REFUSED_MOVE 4    /* direction above 3, or the move leaves the plan (open: such a byte is not 255) */
+#define RONGDHESI_REFUSED_COST 5    /* a cost is not 1 to 250 and not 255 */
+#define RONGDHESI_REFUSED_UNSOUND 6 /* the tables are not sound */
+#define RONGDHESI_REFUSED_ROOM 7    /* the way list is shorter than N */
+#define RONGDHESI_REFUSED_STEPS 9   /* 3N steps taken and the search not ended; from sound tables this never happens */
+
+/* The session record. A call is given it by value and returns the record for the next call. */
+typedef struct rongdhesi_session {
+    uint64_t width;
+    uint64_t height;
+    uint64_t hunter;   /* as placed */
+    uint64_t target;   /* as placed */
+    uint64_t origin;   /* the hunter of the last search */
+    uint64_t goal;     /* the target of the last search */
+    uint32_t km;       /* how far the targets of the searches lay apart, summed */
+    uint64_t count;    /* how many cells are queued */
+    uint32_t searches; /* since the last fresh start */
+} rongdhesi_session;
+
+/* What a call returns. What an answer lacks is 0. */
+typedef struct rongdhesi_reply {
+    rongdhesi_session session; /* the record as the call leaves it */
+    uint64_t kind;             /* RONGDHESI_DONE to RONGDHESI_REFUSED */
+    uint64_t refusal;          /* the number, if refused */
+    uint64_t cost;             /* of the way */
+    uint64_t steps;            /* of a search that was not refused */
+    uint64_t cells;            /* how many cells were written into the way list; a catch writes one */
+} rongdhesi_reply;
+
+/* What rongdhesi_lengths returns. */
+typedef struct rongdhesi_lengths_reply {
+    uint64_t refusal; /* 0, or RONGDHESI_REFUSED_SIZE, and then both lengths are 0 */
+    uint64_t plan;    /* entries of the plan, 4N */
+    uint64_t cells;   /* entries of every other table, N; the way list has at least as many */
+} rongdhesi_lengths_reply;
+
+/* The lengths of the tables for a plan of this size. */
+rongdhesi_lengths_reply rongdhesi_lengths(uint64_t width, uint64_t height);
+
+/* Opens a session: reads the plan and fills all other tables fresh, whatever they held.
+ * plan: four cost bytes for each cell, in the order of the directions; cell = row * width + column.
+ * Answers DONE, or REFUSED by 1, 2, 3, 4 or 5. */
+rongdhesi_reply rongdhesi_open(
+    uint64_t width, uint64_t height, uint64_t hunter, uint64_t target,
+    const uint8_t *plan, size_t plan_length,
+    uint32_t *g, size_t g_length,
+    uint32_t *rhs, size_t rhs_length,
+    uint8_t *parent, size_t parent_length,
+    uint32_t *k1, size_t k1_length,
+    uint32_t *k2, size_t k2_length,
+    uint16_t *place, size_t place_length,
+    uint16_t *list, size_t list_length);
+
+/* Places the hunter: the record notes the cell, and the next search takes it over. Reads no table.
+ * Answers DONE, or REFUSED by 1 or 3. */
+rongdhesi_reply rongdhesi_place_hunter(rongdhesi_session session, uint64_t cell);
+
+/* Places the target, in the same way. */
+rongdhesi_reply rongdhesi_place_target(rongdhesi_session session, uint64_t cell);
+
+/* Gives the move from a cell in a direction a cost, and works that into the tables.
+ * The cost is 1 to 250 or 255; every other number, above 255 too, is refused by 5. g is only read.
+ * Answers DONE, or REFUSED by 1, 2, 6, 3, 4 or 5. */
+rongdhesi_reply rongdhesi_change_move(
+    rongdhesi_session session,
+    uint8_t *plan, size_t plan_length,
+    const uint32_t *g, size_t g_length,
+    uint32_t *rhs, size_t rhs_length,
+    uint8_t *parent, size_t parent_length,
+    uint32_t *k1, size_t k1_length,
+    uint32_t *k2, size_t k2_length,
+    uint16_t *place, size_t place_length,
+    uint16_t *list, size_t list_length,
+    uint64_t cell, uint64_t direction, uint64_t cost);
+
+/* Searches a cheapest way from the placed hunter to the placed target. The plan is only read.
+ * WAY: cost, steps, and the way's cells stand first in the way list, hunter first. NONE: no chain of open moves leads
+ * there; the steps. CAUGHT: both are in one cell, which is written as the way; record and tables stay as they are.
+ * REFUSED by 1, 2, 6, 7 or 9. The rest of the way list keeps its contents. */
+rongdhesi_reply rongdhesi_search(
+    rongdhesi_session session,
+    const uint8_t *plan, size_t plan_length,
+    uint32_t *g, size_t g_length,
+    uint32_t *rhs, size_t rhs_length,
+    uint8_t *parent, size_t parent_length,
+    uint32_t *k1, size_t k1_length,
+    uint32_t *k2, size_t k2_length,
+    uint16_t *place, size_t place_length,
+    uint16_t *list, size_t list_length,
+    uint16_t *way, size_t way_length);
+
+#ifdef __cplusplus
+}
+#endif
+
+#endif
