@@ -1,3 +1,4 @@
 pub mod NumberLaws
 pub mod PlayLaws
 pub mod CaseLaws
+pub mod Theorems

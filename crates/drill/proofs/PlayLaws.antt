@@ -178,20 +178,35 @@ module _ {s : Session} {t t′ : Tables} {way way′ : List ℕ} {r : Outcome} (
   line-is (method-session.way c n l) = ap (λ k. line (answerOf (method-session.way c n l)) k) (take-append-seam l (drop (length l) way))
   line-is method-session.cut-off = refl
 
+  -- What it leaves, and its line, are the definition's.
+  pub search-is : turn (stands s t) Search ≡ record { after = stands (r .session) t′; line = line (r .answer) (take (toldBy (r .answer) .cells) way′) }
+  unfolding turn
+  search-is =
+      sym (
+      ap (λ w. record { after = standing (planOf w (r .session .height) (t′ .plan)) (session (r .session)) (core t′); line = printed }) (D .wide)
+      ∙ ap (λ h. record { after = standing (planOf (s .width) h (t′ .plan)) (session (r .session)) (core t′); line = printed }) (D .high)
+      ∙ ap (λ y. record { after = standing (planOf (s .width) (s .height) y) (session (r .session)) (core t′); line = printed }) (D .plan)
+      ∙ ap (λ y. record { after = standing (floor s (t .plan)) y (core t′); line = printed }) (D .record-is)
+      ∙ ap (λ y. record { after = standing (floor s (t .plan)) (outcome s t .session) y; line = printed }) (D .tables-are)
+      ∙ ap (λ y. record { after = standing (floor s (t .plan)) (outcome s t .session) (outcome s t .tables); line = y }) printed-is
+      )
+    where
+      printed : List ℕ
+      printed = line (r .answer) (take (toldBy (r .answer) .cells) way′)
+
+      printed-is : printed ≡ line (answerOf (outcome s t .answer)) (cellsOf (outcome s t .answer))
+      printed-is =
+          ap (λ (a : search-answer.Answer). line a (take (toldBy a .cells) way′)) (D .answer)
+          ∙ ap (λ w. line (answerOf (outcome s t .answer)) (take (toldBy (answerOf (outcome s t .answer)) .cells) w)) (D .shown) ∙ line-is (outcome s t .answer)
+
   pub search-turns : {text text′ : List ℕ} {used end : ℕ} → Put text used (line (r .answer) (take (toldBy (r .answer) .cells) way′)) end text′
       → Turns Search s t text used (record { session = r .session; used = end }) t′ text′
-  unfolding turn
   search-turns p = record {
     sound = demand-3 S way long searches .sound-again;
     wide = D .wide;
     high = D .high;
-    after =
-        ap (λ w. standing (planOf w (r .session .height) (t′ .plan)) (session (r .session)) (core t′)) (D .wide)
-        ∙ ap (λ h. standing (planOf (s .width) h (t′ .plan)) (session (r .session)) (core t′)) (D .high)
-        ∙ ap (λ y. standing (planOf (s .width) (s .height) y) (session (r .session)) (core t′)) (D .plan)
-        ∙ ap (λ y. standing (floor s (t .plan)) y (core t′)) (D .record-is)
-        ∙ ap (λ y. standing (floor s (t .plan)) (outcome s t .session) y) (D .tables-are);
-    line = put-as (ap (λ (a : search-answer.Answer). line a (take (toldBy a .cells) way′)) (D .answer) ∙ ap (λ w. line (answerOf (outcome s t .answer)) (take (toldBy (answerOf (outcome s t .answer)) .cells) w)) (D .shown) ∙ line-is (outcome s t .answer)) refl p;
+    after = sym (ap (λ (x : Turn). x .after) search-is);
+    line = put-as (sym (ap (λ (x : Turn). x .line) search-is)) refl p;
   }
 
 -- ---- a badly formed action, which no file that is played has

@@ -72,3 +72,9 @@ pub record Begins (file : List ℕ) (r : Reply) (t′ : Tables) : Type 0 where
   pub answer : r .answer ≡ answered (fileNumber file)
   pub sound : fileNumber file ≡ 0 → Sound (r .session) t′
   pub after : fileNumber file ≡ 0 → stands (r .session) t′ ≡ begun file
+
+-- What has been printed of an opened file: nothing at first, then piece after piece.
+pub data Printed (file : List ℕ) : Session → Tables → ℕ → ℕ → List ℕ → Type 0 where
+  opened : {r : Reply} {t : Tables} → Begins file r t → r .answer ≡ Done → Printed file (r .session) t (drill-file.trailerOf file .offset) (drill-file.trailerOf file .actions) []
+  piece : {s : Session} {t t′ : Tables} {at left : ℕ} {out text text′ : List ℕ} {r : Played} → Printed file s t at left out → Plays file s t at left text r t′ text′
+      → Printed file (r .session) t′ (r .at) (r .left) (out ++ take (r .used) text′)
