@@ -17,13 +17,13 @@ use Rattle.plan.specs.Grid.{outBy, intoBy, upTo}
 use Rattle.drill_file.specs.File.{actionOf, actionAt, actionsFrom, wellFormed, isSize, formNumber}
 use Rattle.lines.specs.Text.{bytes, digits, spaced}
 use Rattle.drill.specs.Numbers.{below, isByte, bytesHold, edgeHolds, edgesHold, openNumber, moveNumber}
-use Rattle.drill.specs.Play.{turn, played}
+use Rattle.drill.specs.Play.{turn, played, leftBy}
 use Rattle.drill.specs.Output.{fileNumber, output}
-use Rattle.drill.specs.Cases.{cases}
+use Rattle.drill.specs.Cases.{given, cases}
 
--- Every file of the list prints what the list says.
-pub all-cases : map (λ c. output (c .file)) cases ≡ map (λ c. c .prints) cases
-unfolding choose firstKey enter setRight better leastOver anew foundAnew relaxed relaxedAll lowered renewed renewedAll raised stepped sooner soonest leastQueued goesOn nextCell runOn run blank fresh moveChanged handedOver takenOver parentCell wayFrom answerOf search shifts stays estimate isCost outBy intoBy upTo actionOf actionAt actionsFrom wellFormed isSize formNumber bytes digits spaced below isByte bytesHold edgeHolds edgesHold openNumber moveNumber turn played fileNumber output cases ℕ-discrete decLt Dec·and
+-- For every file of the list the definitions give what the list says.
+pub all-cases : map (λ c. given (c .file)) cases ≡ cases
+unfolding choose firstKey enter setRight better leastOver anew foundAnew relaxed relaxedAll lowered renewed renewedAll raised stepped sooner soonest leastQueued goesOn nextCell runOn run blank fresh moveChanged handedOver takenOver parentCell wayFrom answerOf search shifts stays estimate isCost outBy intoBy upTo actionOf actionAt actionsFrom wellFormed isSize formNumber bytes digits spaced below isByte bytesHold edgeHolds edgesHold openNumber moveNumber turn played leftBy fileNumber output cases ℕ-discrete decLt Dec·and
 all-cases = refl
 
 -- No move stays in a plan of 1 by 1.

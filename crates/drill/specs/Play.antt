@@ -58,3 +58,8 @@ turn S Bad = accepted S
 unfoldable pub played : Standing → List Action → List ℕ
 played S [] = []
 played S (a ∷ l) = let t = turn S a in t .line ++ played (t .after) l
+
+-- What they leave.
+unfoldable pub leftBy : Standing → List Action → Standing
+leftBy S [] = S
+leftBy S (a ∷ l) = leftBy (turn S a .after) l
