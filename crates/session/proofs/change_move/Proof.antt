@@ -1,3 +1,4 @@
+use native.Mathlib.Omega.{arith}
 use mathlib.Core.Path.{refl}
 use Rattle.session.proofs.RefusalLaws.{answer-refused, table-number, tables-granted}
 use borrow.Author.Needs.{needs}
@@ -33,10 +34,10 @@ same-length-7 : tie.Need-same-length-7
 same-length-7 c = search needs
 
 returns : tie.Need-returns
-returns c = record { number = c .before .table-refusal .result; rules = table-number (c .before .table-refusal .ensures) (c .if1 .taken); answer = answer-refused _ (c .if1 .taken); refused = λ _. (refl, refl); done = λ z. absurd (c .if1 .taken z) }
+returns c = record { number = c .before .table-refusal .result; rules = table-number (c .before .table-refusal .ensures) (λ z. omega (arith, z, c .if1 .taken)); answer = answer-refused _ (λ z. omega (arith, z, c .if1 .taken)); refused = λ _. (refl, refl); done = λ z. absurd (omega (arith, z, c .if1 .taken)) }
 
 change-sound-requires : tie.Need-change-sound-requires
-change-sound-requires c κs = tables-granted (c .before .before .before .before .before .before .before .before .table-refusal .ensures) (c .before .before .before .before .before .before .before .if1 .left)
+change-sound-requires c κs = tables-granted (c .before .before .before .before .before .before .before .before .table-refusal .ensures) (omega (arith, c .before .before .before .before .before .before .before .if1 .left))
 
 same-length-8 : tie.Need-same-length-8
 same-length-8 c = search needs
