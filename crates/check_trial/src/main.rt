@@ -13,10 +13,23 @@ struct Tally {
     b: usize,
 }
 
-// A record, and the tally that its tables are tried with.
+// A record and its tables. They are passed by value, so that an entry can be broken in a copy.
 struct Base {
     session: tables::Session,
-    tally: Tally,
+    plan: [u8; 24],
+    g: [u32; 6],
+    rhs: [u32; 6],
+    parent: [u8; 6],
+    k1: [u32; 6],
+    k2: [u32; 6],
+    place: [u16; 6],
+    list: [u16; 6],
+}
+
+// A base after a call, and the number of its refusal.
+struct Answered {
+    base: Base,
+    number: usize,
 }
 
 // A byte as a number.
@@ -76,117 +89,87 @@ fn number_of(a: session::Answer) -> usize {
     of_byte(number)
 }
 
-// Asks the check: a change of a cell out of the plan is answered by 3 exactly if the tables are sound, and changes nothing.
-fn ask(
-    s: tables::Session,
-    plan: &mut [u8],
-    g: &mut [u32],
-    rhs: &mut [u32],
-    parent: &mut [u8],
-    k1: &mut [u32],
-    k2: &mut [u32],
-    place: &mut [u16],
-    list: &mut [u16],
-) -> usize {
-    let r = session::change_move(s, plan, g, rhs, parent, k1, k2, place, list, 6, 0, 1);
+// Changes a move.
+fn change(b: Base, cell: usize, direction: usize, cost: u8) -> Answered {
+    let mut plan = b.plan;
+    let g = b.g;
+    let mut rhs = b.rhs;
+    let mut parent = b.parent;
+    let mut k1 = b.k1;
+    let mut k2 = b.k2;
+    let mut place = b.place;
+    let mut list = b.list;
+    let r = session::change_move(
+        b.session,
+        &mut plan,
+        &g,
+        &mut rhs,
+        &mut parent,
+        &mut k1,
+        &mut k2,
+        &mut place,
+        &mut list,
+        cell,
+        direction,
+        cost,
+    );
+    let session = r.session;
     let answer = r.answer;
-    number_of(answer)
-}
-
-// An entry of a table of bytes, 0 beyond its end.
-fn byte_at(t: &[u8], at: usize) -> usize {
-    if at < t.len() {
-        return of_byte(t[at]);
-    }
-    0
-}
-
-// An entry of a table of 16-bit numbers, 0 beyond its end.
-fn cell_at(t: &[u16], at: usize) -> usize {
-    if at < t.len() {
-        return of_cell(t[at]);
-    }
-    0
-}
-
-// An entry of a table of 32-bit numbers, 0 beyond its end.
-fn wide_at(t: &[u32], at: usize) -> usize {
-    if at < t.len() {
-        return of_wide(t[at]);
-    }
-    0
-}
-
-// Gives an entry of a table of bytes a value.
-fn set_byte(t: &mut [u8], at: usize, v: u8) {
-    if at < t.len() {
-        t[at] = v;
+    let base = Base {
+        session,
+        plan,
+        g,
+        rhs,
+        parent,
+        k1,
+        k2,
+        place,
+        list,
+    };
+    Answered {
+        base,
+        number: number_of(answer),
     }
 }
 
-// Gives an entry of a table of 16-bit numbers a value.
-fn set_cell(t: &mut [u16], at: usize, v: u16) {
-    if at < t.len() {
-        t[at] = v;
-    }
-}
-
-// Gives an entry of a table of 32-bit numbers a value.
-fn set_wide(t: &mut [u32], at: usize, v: u32) {
-    if at < t.len() {
-        t[at] = v;
-    }
+// Asks the check: a change of a cell out of the plan is answered by 3 exactly if the tables are sound.
+fn ask(b: Base) -> usize {
+    let c = change(b, 6, 0, 1);
+    c.number
 }
 
 // An entry of the table that a number from 1 to 8 names.
-fn peek(
-    table: usize,
-    at: usize,
-    plan: &[u8],
-    g: &[u32],
-    rhs: &[u32],
-    parent: &[u8],
-    k1: &[u32],
-    k2: &[u32],
-    place: &[u16],
-    list: &[u16],
-) -> usize {
+fn peek(b: Base, table: usize, at: usize) -> usize {
+    let i = at % 6;
+    let j = at % 24;
     match table {
-        1 => byte_at(plan, at),
-        2 => wide_at(g, at),
-        3 => wide_at(rhs, at),
-        4 => byte_at(parent, at),
-        5 => wide_at(k1, at),
-        6 => wide_at(k2, at),
-        7 => cell_at(place, at),
-        _ => cell_at(list, at),
+        1 => of_byte(b.plan[j]),
+        2 => of_wide(b.g[i]),
+        3 => of_wide(b.rhs[i]),
+        4 => of_byte(b.parent[i]),
+        5 => of_wide(b.k1[i]),
+        6 => of_wide(b.k2[i]),
+        7 => of_cell(b.place[i]),
+        _ => of_cell(b.list[i]),
     }
 }
 
-// Gives an entry of the table that a number from 1 to 8 names a value.
-fn poke(
-    table: usize,
-    at: usize,
-    v: usize,
-    plan: &mut [u8],
-    g: &mut [u32],
-    rhs: &mut [u32],
-    parent: &mut [u8],
-    k1: &mut [u32],
-    k2: &mut [u32],
-    place: &mut [u16],
-    list: &mut [u16],
-) {
+// The base with another value of an entry of the table that a number from 1 to 8 names.
+fn poked(b: Base, table: usize, at: usize, v: usize) -> Base {
+    let mut t = b;
+    let i = at % 6;
+    let j = at % 24;
     match table {
-        1 => set_byte(plan, at, to_byte(v)),
-        2 => set_wide(g, at, to_wide(v)),
-        3 => set_wide(rhs, at, to_wide(v)),
-        4 => set_byte(parent, at, to_byte(v)),
-        5 => set_wide(k1, at, to_wide(v)),
-        6 => set_wide(k2, at, to_wide(v)),
-        7 => set_cell(place, at, to_cell(v)),
-        _ => set_cell(list, at, to_cell(v)),
+        1 => t.plan[j] = to_byte(v),
+        2 => t.g[i] = to_wide(v),
+        3 => t.rhs[i] = to_wide(v),
+        4 => t.parent[i] = to_byte(v),
+        5 => t.k1[i] = to_wide(v),
+        6 => t.k2[i] = to_wide(v),
+        7 => t.place[i] = to_cell(v),
+        _ => t.list[i] = to_cell(v),
     }
+    t
 }
 
 // A number, brought into the width of a table's entries.
@@ -211,78 +194,10 @@ fn new_value(table: usize, old: usize, kind: usize) -> usize {
     }
 }
 
-// What the check says with an entry set to a value.
-fn ask_with(
-    s: tables::Session,
-    table: usize,
-    at: usize,
-    v: usize,
-    plan: &mut [u8],
-    g: &mut [u32],
-    rhs: &mut [u32],
-    parent: &mut [u8],
-    k1: &mut [u32],
-    k2: &mut [u32],
-    place: &mut [u16],
-    list: &mut [u16],
-) -> usize {
-    poke(table, at, v, plan, g, rhs, parent, k1, k2, place, list);
-    ask(s, plan, g, rhs, parent, k1, k2, place, list)
-}
-
-// What the check says with an entry set to a value. The entry gets its old value back.
-fn ask_once(
-    s: tables::Session,
-    table: usize,
-    at: usize,
-    v: usize,
-    old: usize,
-    plan: &mut [u8],
-    g: &mut [u32],
-    rhs: &mut [u32],
-    parent: &mut [u8],
-    k1: &mut [u32],
-    k2: &mut [u32],
-    place: &mut [u16],
-    list: &mut [u16],
-) -> usize {
-    let number = ask_with(s, table, at, v, plan, g, rhs, parent, k1, k2, place, list);
-    poke(table, at, old, plan, g, rhs, parent, k1, k2, place, list);
-    number
-}
-
 // What the check says with an entry broken in one of five ways.
-fn ask_entry(
-    s: tables::Session,
-    table: usize,
-    at: usize,
-    kind: usize,
-    plan: &mut [u8],
-    g: &mut [u32],
-    rhs: &mut [u32],
-    parent: &mut [u8],
-    k1: &mut [u32],
-    k2: &mut [u32],
-    place: &mut [u16],
-    list: &mut [u16],
-) -> usize {
-    let old = peek(table, at, plan, g, rhs, parent, k1, k2, place, list);
-    let v = new_value(table, old, kind);
-    ask_once(
-        s,
-        table,
-        at,
-        v,
-        old,
-        plan,
-        g,
-        rhs,
-        parent,
-        k1,
-        k2,
-        place,
-        list,
-    )
+fn ask_entry(b: Base, table: usize, at: usize, kind: usize) -> usize {
+    let old = peek(b, table, at);
+    ask(poked(b, table, at, new_value(table, old, kind)))
 }
 
 // The new value of a kind from 0 to 2 for a field: one more, 0, the greatest.
@@ -342,47 +257,19 @@ fn altered(s: tables::Session, field: usize, kind: usize) -> tables::Session {
     t
 }
 
+// The base with another record.
+fn with_session(b: Base, session: tables::Session) -> Base {
+    let mut t = b;
+    t.session = session;
+    t
+}
+
 // What the check says in the question that a number names, of a table or (9) of the record.
-fn ask_question(
-    s: tables::Session,
-    table: usize,
-    i: usize,
-    plan: &mut [u8],
-    g: &mut [u32],
-    rhs: &mut [u32],
-    parent: &mut [u8],
-    k1: &mut [u32],
-    k2: &mut [u32],
-    place: &mut [u16],
-    list: &mut [u16],
-) -> usize {
+fn ask_question(b: Base, table: usize, i: usize) -> usize {
     if table == 9 {
-        return ask(
-            altered(s, i / 3, i % 3),
-            plan,
-            g,
-            rhs,
-            parent,
-            k1,
-            k2,
-            place,
-            list,
-        );
+        return ask(with_session(b, altered(b.session, i / 3, i % 3)));
     }
-    ask_entry(
-        s,
-        table,
-        i / 5,
-        i % 5,
-        plan,
-        g,
-        rhs,
-        parent,
-        k1,
-        k2,
-        place,
-        list,
-    )
+    ask_entry(b, table, i / 5, i % 5)
 }
 
 // The number of questions about a table: five for each entry, three for each field.
@@ -397,27 +284,12 @@ fn questions(table: usize) -> usize
 }
 
 // Asks every question about a table.
-fn try_table(
-    s: tables::Session,
-    t: Tally,
-    table: usize,
-    plan: &mut [u8],
-    g: &mut [u32],
-    rhs: &mut [u32],
-    parent: &mut [u8],
-    k1: &mut [u32],
-    k2: &mut [u32],
-    place: &mut [u16],
-    list: &mut [u16],
-) -> Tally {
+fn try_table(b: Base, t: Tally, table: usize) -> Tally {
     let many = questions(table);
     let mut told = t;
     let mut i = 0;
     while i < many {
-        told = note(
-            told,
-            ask_question(s, table, i, plan, g, rhs, parent, k1, k2, place, list),
-        );
+        told = note(told, ask_question(b, table, i));
         i += 1;
     }
     told
@@ -447,99 +319,14 @@ fn print_line(base: usize, table: usize, t: Tally) -> Tally {
 }
 
 // Tries all tables of a base, and prints their lines.
-fn try_base(
-    number: usize,
-    s: tables::Session,
-    t: Tally,
-    plan: &mut [u8],
-    g: &mut [u32],
-    rhs: &mut [u32],
-    parent: &mut [u8],
-    k1: &mut [u32],
-    k2: &mut [u32],
-    place: &mut [u16],
-    list: &mut [u16],
-) -> Tally {
+fn try_base(number: usize, b: Base, t: Tally) -> Tally {
     let mut told = t;
     let mut table = 1;
     while table < 10 {
-        told = print_line(
-            number,
-            table,
-            try_table(s, told, table, plan, g, rhs, parent, k1, k2, place, list),
-        );
+        told = print_line(number, table, try_table(b, told, table));
         table += 1;
     }
     told
-}
-
-// The first base: a session just opened.
-fn try_opened(
-    plan: &mut [u8],
-    g: &mut [u32],
-    rhs: &mut [u32],
-    parent: &mut [u8],
-    k1: &mut [u32],
-    k2: &mut [u32],
-    place: &mut [u16],
-    list: &mut [u16],
-) -> Base {
-    let r = session::open(3, 2, 0, 5, plan, g, rhs, parent, k1, k2, place, list);
-    let session = r.session;
-    let t = Tally {
-        asked: 0,
-        sound: 0,
-        a: 1,
-        b: 2,
-    };
-    let tally = try_base(1, session, t, plan, g, rhs, parent, k1, k2, place, list);
-    Base { session, tally }
-}
-
-// One search. Its way is not looked at.
-fn seek(
-    s: tables::Session,
-    plan: &mut [u8],
-    g: &mut [u32],
-    rhs: &mut [u32],
-    parent: &mut [u8],
-    k1: &mut [u32],
-    k2: &mut [u32],
-    place: &mut [u16],
-    list: &mut [u16],
-) -> tables::Session {
-    let mut way = [65535u16; 6];
-    let o = search::search(s, plan, g, rhs, parent, k1, k2, place, list, &mut way);
-    o.session
-}
-
-// The second base: after a search.
-fn try_searched(
-    base: Base,
-    plan: &mut [u8],
-    g: &mut [u32],
-    rhs: &mut [u32],
-    parent: &mut [u8],
-    k1: &mut [u32],
-    k2: &mut [u32],
-    place: &mut [u16],
-    list: &mut [u16],
-) -> Base {
-    let session = seek(base.session, plan, g, rhs, parent, k1, k2, place, list);
-    let tally = try_base(
-        2,
-        session,
-        base.tally,
-        plan,
-        g,
-        rhs,
-        parent,
-        k1,
-        k2,
-        place,
-        list,
-    );
-    Base { session, tally }
 }
 
 // The record with hunter and target at other cells.
@@ -549,83 +336,47 @@ fn moved(s: tables::Session) -> tables::Session {
     q.session
 }
 
-// Moves hunter and target, and searches.
-fn seek_moved(
-    s: tables::Session,
-    plan: &mut [u8],
-    g: &mut [u32],
-    rhs: &mut [u32],
-    parent: &mut [u8],
-    k1: &mut [u32],
-    k2: &mut [u32],
-    place: &mut [u16],
-    list: &mut [u16],
-) -> tables::Session {
-    seek(moved(s), plan, g, rhs, parent, k1, k2, place, list)
+// The base after a search. Its way is not looked at.
+fn searched(b: Base) -> Base {
+    let plan = b.plan;
+    let mut g = b.g;
+    let mut rhs = b.rhs;
+    let mut parent = b.parent;
+    let mut k1 = b.k1;
+    let mut k2 = b.k2;
+    let mut place = b.place;
+    let mut list = b.list;
+    let mut way = [65535u16; 6];
+    let o = search::search(
+        b.session,
+        &plan,
+        &mut g,
+        &mut rhs,
+        &mut parent,
+        &mut k1,
+        &mut k2,
+        &mut place,
+        &mut list,
+        &mut way,
+    );
+    let session = o.session;
+    Base {
+        session,
+        plan,
+        g,
+        rhs,
+        parent,
+        k1,
+        k2,
+        place,
+        list,
+    }
 }
 
-// Searches between other cells, and makes a move on the way dear. Two cells are queued then.
-fn change(
-    s: tables::Session,
-    plan: &mut [u8],
-    g: &mut [u32],
-    rhs: &mut [u32],
-    parent: &mut [u8],
-    k1: &mut [u32],
-    k2: &mut [u32],
-    place: &mut [u16],
-    list: &mut [u16],
-) -> tables::Session {
-    let t = seek_moved(s, plan, g, rhs, parent, k1, k2, place, list);
-    let r = session::change_move(t, plan, g, rhs, parent, k1, k2, place, list, 0, 2, 200);
-    r.session
-}
-
-// The third base: after a change.
-fn try_changed(
-    base: Base,
-    plan: &mut [u8],
-    g: &mut [u32],
-    rhs: &mut [u32],
-    parent: &mut [u8],
-    k1: &mut [u32],
-    k2: &mut [u32],
-    place: &mut [u16],
-    list: &mut [u16],
-) {
-    let s = change(base.session, plan, g, rhs, parent, k1, k2, place, list);
-    try_base(3, s, base.tally, plan, g, rhs, parent, k1, k2, place, list);
-}
-
-// Tries the second and the third base.
-fn try_later(
-    base: Base,
-    plan: &mut [u8],
-    g: &mut [u32],
-    rhs: &mut [u32],
-    parent: &mut [u8],
-    k1: &mut [u32],
-    k2: &mut [u32],
-    place: &mut [u16],
-    list: &mut [u16],
-) {
-    let second = try_searched(base, plan, g, rhs, parent, k1, k2, place, list);
-    try_changed(second, plan, g, rhs, parent, k1, k2, place, list);
-}
-
-// Tries the three bases, one after the other.
-fn try_all(
-    plan: &mut [u8],
-    g: &mut [u32],
-    rhs: &mut [u32],
-    parent: &mut [u8],
-    k1: &mut [u32],
-    k2: &mut [u32],
-    place: &mut [u16],
-    list: &mut [u16],
-) {
-    let first = try_opened(plan, g, rhs, parent, k1, k2, place, list);
-    try_later(first, plan, g, rhs, parent, k1, k2, place, list);
+// The base after a search between other cells, and a change that makes a move on the way dear.
+fn changed(b: Base) -> Base {
+    let c = change(searched(with_session(b, moved(b.session))), 0, 2, 200);
+    c.base
 }
 
 // A byte of the plan of width 3 and height 2: one inner move is shut, the others cost 1 to 5.
@@ -648,33 +399,20 @@ fn byte_of(i: usize) -> u8 {
     }
 }
 
-// Writes the plan.
-fn write_plan(plan: &mut [u8]) {
+// The plan.
+fn drawn() -> [u8; 24] {
+    let mut plan = [7u8; 24];
     let mut i = 0;
-    while i < plan.len() {
+    while i < 24 {
         plan[i] = byte_of(i);
         i += 1;
     }
+    plan
 }
 
-// Writes the plan, and tries the bases.
-fn trials(
-    plan: &mut [u8],
-    g: &mut [u32],
-    rhs: &mut [u32],
-    parent: &mut [u8],
-    k1: &mut [u32],
-    k2: &mut [u32],
-    place: &mut [u16],
-    list: &mut [u16],
-) {
-    write_plan(plan);
-    try_all(plan, g, rhs, parent, k1, k2, place, list);
-}
-
-// Owns the tables.
-fn main() {
-    let mut plan = [7u8; 24];
+// A session just opened.
+fn opened() -> Base {
+    let plan = drawn();
     let mut g = [7u32; 6];
     let mut rhs = [7u32; 6];
     let mut parent = [7u8; 6];
@@ -682,8 +420,12 @@ fn main() {
     let mut k2 = [7u32; 6];
     let mut place = [7u16; 6];
     let mut list = [7u16; 6];
-    trials(
-        &mut plan,
+    let r = session::open(
+        3,
+        2,
+        0,
+        5,
+        &plan,
         &mut g,
         &mut rhs,
         &mut parent,
@@ -692,4 +434,31 @@ fn main() {
         &mut place,
         &mut list,
     );
+    let session = r.session;
+    Base {
+        session,
+        plan,
+        g,
+        rhs,
+        parent,
+        k1,
+        k2,
+        place,
+        list,
+    }
+}
+
+// The three bases: a session just opened; after a search; and after a search between other cells and a change, when two cells are queued.
+fn main() {
+    let t = Tally {
+        asked: 0,
+        sound: 0,
+        a: 1,
+        b: 2,
+    };
+    let first = opened();
+    let one = try_base(1, first, t);
+    let second = searched(first);
+    let two = try_base(2, second, one);
+    try_base(3, changed(second), two);
 }

@@ -26,9 +26,20 @@ struct Told {
     length: usize,
 }
 
-// A session while it is played. If it walks, the hunter only goes along the way shown.
+// A session while it is played, with its tables, of which it uses the first cells. If it walks, the hunter only goes along the way shown.
+// It is passed by value: the tables are lent only where the library is called.
 struct Player {
     session: tables::Session,
+    plan: [u8; 1280],
+    g: [u32; 320],
+    rhs: [u32; 320],
+    parent: [u8; 320],
+    k1: [u32; 320],
+    k2: [u32; 320],
+    place: [u16; 320],
+    list: [u16; 320],
+    way: [u16; 320],
+    cells: usize,
     luck: Luck,
     digest: Digest,
     calls: usize,
@@ -49,6 +60,12 @@ struct Wish {
 // A drawn byte of the plan, and the generator after it.
 struct Byte {
     cost: u8,
+    luck: Luck,
+}
+
+// A drawn plan, and the generator after it.
+struct Drawn {
+    plan: [u8; 1280],
     luck: Luck,
 }
 
@@ -144,11 +161,24 @@ fn fold_session(d: Digest, s: tables::Session) -> Digest {
     fold(fold(taken, s.count), wide(s.searches))
 }
 
-// The digest with a table of bytes.
-fn fold_bytes(d: Digest, t: &[u8]) -> Digest {
+// The digest with the plan of so many cells.
+fn fold_plan(d: Digest, t: [u8; 1280], cells: usize) -> Digest {
+    let many = cells % 321 * 4;
     let mut seen = d;
     let mut i = 0;
-    while i < t.len() {
+    while i < many {
+        seen = fold(seen, of_byte(t[i]));
+        i += 1;
+    }
+    seen
+}
+
+// The digest with a table of bytes.
+fn fold_bytes(d: Digest, t: [u8; 320], cells: usize) -> Digest {
+    let many = cells % 321;
+    let mut seen = d;
+    let mut i = 0;
+    while i < many {
         seen = fold(seen, of_byte(t[i]));
         i += 1;
     }
@@ -156,10 +186,11 @@ fn fold_bytes(d: Digest, t: &[u8]) -> Digest {
 }
 
 // The digest with a table of 32-bit numbers.
-fn fold_wide(d: Digest, t: &[u32]) -> Digest {
+fn fold_wide(d: Digest, t: [u32; 320], cells: usize) -> Digest {
+    let many = cells % 321;
     let mut seen = d;
     let mut i = 0;
-    while i < t.len() {
+    while i < many {
         seen = fold(seen, wide(t[i]));
         i += 1;
     }
@@ -167,10 +198,11 @@ fn fold_wide(d: Digest, t: &[u32]) -> Digest {
 }
 
 // The digest with a table of 16-bit numbers.
-fn fold_cells(d: Digest, t: &[u16]) -> Digest {
+fn fold_cells(d: Digest, t: [u16; 320], cells: usize) -> Digest {
+    let many = cells % 321;
     let mut seen = d;
     let mut i = 0;
-    while i < t.len() {
+    while i < many {
         seen = fold(seen, cell_of(t[i]));
         i += 1;
     }
@@ -186,45 +218,43 @@ fn is_queued(place: u16) -> usize {
 }
 
 // The digest with whether each cell is queued.
-fn fold_queued(d: Digest, place: &[u16]) -> Digest {
+fn fold_queued(d: Digest, place: [u16; 320], cells: usize) -> Digest {
+    let many = cells % 321;
     let mut seen = d;
     let mut i = 0;
-    while i < place.len() {
+    while i < many {
         seen = fold(seen, is_queued(place[i]));
         i += 1;
     }
     seen
 }
 
+// The digest with all tables and the way list.
+fn fold_tables(d: Digest, p: Player) -> Digest {
+    let n = p.cells;
+    let plan = p.plan;
+    let g = p.g;
+    let rhs = p.rhs;
+    let parent = p.parent;
+    let k1 = p.k1;
+    let k2 = p.k2;
+    let place = p.place;
+    let way = p.way;
+    let first = fold_wide(fold_wide(fold_plan(d, plan, n), g, n), rhs, n);
+    let second = fold_wide(fold_wide(fold_bytes(first, parent, n), k1, n), k2, n);
+    fold_cells(fold_queued(second, place, n), way, n)
+}
+
 // The player after a call that was answered so: counted, and folded with the record, the tables and the way list.
-fn note(
-    p: Player,
-    t: Told,
-    plan: &[u8],
-    g: &[u32],
-    rhs: &[u32],
-    parent: &[u8],
-    k1: &[u32],
-    k2: &[u32],
-    place: &[u16],
-    way: &[u16],
-) -> Player {
-    let told = fold_session(fold_told(p.digest, t), p.session);
-    let first = fold_wide(fold_wide(fold_bytes(told, plan), g), rhs);
-    let second = fold_wide(fold_wide(fold_bytes(first, parent), k1), k2);
-    let digest = fold_cells(fold_queued(second, place), way);
-    let session = p.session;
-    let luck = p.luck;
-    Player {
-        session,
-        luck,
-        digest,
-        calls: p.calls % 1000000000 + 1,
-        steps: p.steps % 1000000000 + t.steps % 1000000000,
-        kind: t.kind,
-        length: t.length,
-        walks: p.walks,
-    }
+fn note(p: Player, t: Told) -> Player {
+    let digest = fold_tables(fold_session(fold_told(p.digest, t), p.session), p);
+    let mut q = p;
+    q.digest = digest;
+    q.calls = p.calls % 1000000000 + 1;
+    q.steps = p.steps % 1000000000 + t.steps % 1000000000;
+    q.kind = t.kind;
+    q.length = t.length;
+    q
 }
 
 // The player with another record.
@@ -296,33 +326,43 @@ fn found_of(a: search::Answer) -> Told {
 }
 
 // One search.
-fn seek(
-    p: Player,
-    plan: &[u8],
-    g: &mut [u32],
-    rhs: &mut [u32],
-    parent: &mut [u8],
-    k1: &mut [u32],
-    k2: &mut [u32],
-    place: &mut [u16],
-    list: &mut [u16],
-    way: &mut [u16],
-) -> Player {
-    let o = search::search(p.session, plan, g, rhs, parent, k1, k2, place, list, way);
-    let s = o.session;
-    let a = o.answer;
-    note(
-        with_session(p, s),
-        found_of(a),
-        plan,
-        g,
-        rhs,
-        parent,
-        k1,
-        k2,
-        place,
-        way,
-    )
+fn seek(p: Player) -> Player {
+    let n = p.cells % 321;
+    let m = n * 4;
+    let plan = p.plan;
+    let mut g = p.g;
+    let mut rhs = p.rhs;
+    let mut parent = p.parent;
+    let mut k1 = p.k1;
+    let mut k2 = p.k2;
+    let mut place = p.place;
+    let mut list = p.list;
+    let mut way = p.way;
+    let o = search::search(
+        p.session,
+        &plan[0..m],
+        &mut g[0..n],
+        &mut rhs[0..n],
+        &mut parent[0..n],
+        &mut k1[0..n],
+        &mut k2[0..n],
+        &mut place[0..n],
+        &mut list[0..n],
+        &mut way[0..n],
+    );
+    let session = o.session;
+    let answer = o.answer;
+    let mut q = p;
+    q.session = session;
+    q.g = g;
+    q.rhs = rhs;
+    q.parent = parent;
+    q.k1 = k1;
+    q.k2 = k2;
+    q.place = place;
+    q.list = list;
+    q.way = way;
+    note(q, found_of(answer))
 }
 
 // A drawn change of a move. Its cost is any byte, or (fit) 255 or 1 to 9.
@@ -358,166 +398,105 @@ fn drawn_change(l: Luck, cells: usize, fit: bool) -> Wish {
 }
 
 // One drawn change.
-fn change(
-    p: Player,
-    fit: bool,
-    plan: &mut [u8],
-    g: &[u32],
-    rhs: &mut [u32],
-    parent: &mut [u8],
-    k1: &mut [u32],
-    k2: &mut [u32],
-    place: &mut [u16],
-    list: &mut [u16],
-    way: &[u16],
-) -> Player {
-    let c = drawn_change(p.luck, way.len(), fit);
+fn change(p: Player, fit: bool) -> Player {
+    let c = drawn_change(p.luck, p.cells, fit);
+    let n = p.cells % 321;
+    let m = n * 4;
+    let mut plan = p.plan;
+    let g = p.g;
+    let mut rhs = p.rhs;
+    let mut parent = p.parent;
+    let mut k1 = p.k1;
+    let mut k2 = p.k2;
+    let mut place = p.place;
+    let mut list = p.list;
     let r = session::change_move(
         p.session,
-        plan,
-        g,
-        rhs,
-        parent,
-        k1,
-        k2,
-        place,
-        list,
+        &mut plan[0..m],
+        &g[0..n],
+        &mut rhs[0..n],
+        &mut parent[0..n],
+        &mut k1[0..n],
+        &mut k2[0..n],
+        &mut place[0..n],
+        &mut list[0..n],
         c.cell,
         c.direction,
         c.cost,
     );
-    let s = r.session;
-    let a = r.answer;
-    let q = with_luck(with_session(p, s), c.luck);
-    note(q, told_of(a), plan, g, rhs, parent, k1, k2, place, way)
+    let session = r.session;
+    let answer = r.answer;
+    let luck = c.luck;
+    let mut q = p;
+    q.session = session;
+    q.luck = luck;
+    q.plan = plan;
+    q.rhs = rhs;
+    q.parent = parent;
+    q.k1 = k1;
+    q.k2 = k2;
+    q.place = place;
+    q.list = list;
+    note(q, told_of(answer))
 }
 
 // Where the hunter is placed: at the drawn cell; of a player that walks, at the way's second cell, or out of the plan.
-fn hunter_cell(p: Player, way: &[u16], drawn: usize) -> usize {
+fn hunter_cell(p: Player, drawn: usize) -> usize {
     if !p.walks {
         return drawn;
     }
     if p.length < 2 {
-        return way.len();
+        return p.cells;
     }
-    if way.len() < 2 {
-        return way.len();
-    }
-    cell_of(way[1])
+    cell_of(p.way[1])
 }
 
 // Places the hunter.
-fn put_hunter(
-    p: Player,
-    plan: &[u8],
-    g: &[u32],
-    rhs: &[u32],
-    parent: &[u8],
-    k1: &[u32],
-    k2: &[u32],
-    place: &[u16],
-    way: &[u16],
-) -> Player {
+fn put_hunter(p: Player) -> Player {
     let l = next(p.luck);
-    let cell = hunter_cell(p, way, up_to(l, way.len()));
-    let r = session::place_hunter(p.session, cell);
+    let r = session::place_hunter(p.session, hunter_cell(p, up_to(l, p.cells)));
     let s = r.session;
     let a = r.answer;
-    let q = with_luck(with_session(p, s), l);
-    note(q, told_of(a), plan, g, rhs, parent, k1, k2, place, way)
+    note(with_luck(with_session(p, s), l), told_of(a))
 }
 
 // Places the target.
-fn put_target(
-    p: Player,
-    plan: &[u8],
-    g: &[u32],
-    rhs: &[u32],
-    parent: &[u8],
-    k1: &[u32],
-    k2: &[u32],
-    place: &[u16],
-    way: &[u16],
-) -> Player {
+fn put_target(p: Player) -> Player {
     let l = next(p.luck);
-    let r = session::place_target(p.session, up_to(l, way.len()));
+    let r = session::place_target(p.session, up_to(l, p.cells));
     let s = r.session;
     let a = r.answer;
-    let q = with_luck(with_session(p, s), l);
-    note(q, told_of(a), plan, g, rhs, parent, k1, k2, place, way)
-}
-
-// An entry of a table of bytes, 0 beyond its end.
-fn byte_at(t: &[u8], at: usize) -> usize {
-    if at < t.len() {
-        return of_byte(t[at]);
-    }
-    0
-}
-
-// An entry of a table of 32-bit numbers, 0 beyond its end.
-fn wide_at(t: &[u32], at: usize) -> usize {
-    if at < t.len() {
-        return wide(t[at]);
-    }
-    0
-}
-
-// Gives an entry of a table of bytes a value.
-fn set_byte(t: &mut [u8], at: usize, v: u8) {
-    if at < t.len() {
-        t[at] = v;
-    }
-}
-
-// Gives an entry of a table of 32-bit numbers a value.
-fn set_wide(t: &mut [u32], at: usize, v: u32) {
-    if at < t.len() {
-        t[at] = v;
-    }
+    note(with_luck(with_session(p, s), l), told_of(a))
 }
 
 // An entry of the table that a number names.
-fn peek(
-    table: usize,
-    at: usize,
-    plan: &[u8],
-    g: &[u32],
-    rhs: &[u32],
-    parent: &[u8],
-    k1: &[u32],
-    k2: &[u32],
-) -> usize {
+fn peek(p: Player, table: usize, at: usize) -> usize {
+    let i = at % 320;
+    let j = at % 1280;
     match table {
-        0 => wide_at(g, at),
-        1 => wide_at(rhs, at),
-        2 => byte_at(parent, at),
-        3 => wide_at(k1, at),
-        4 => wide_at(k2, at),
-        _ => byte_at(plan, at),
+        0 => wide(p.g[i]),
+        1 => wide(p.rhs[i]),
+        2 => of_byte(p.parent[i]),
+        3 => wide(p.k1[i]),
+        4 => wide(p.k2[i]),
+        _ => of_byte(p.plan[j]),
     }
 }
 
-// Gives an entry of the table that a number names a value.
-fn poke(
-    table: usize,
-    at: usize,
-    v: usize,
-    plan: &mut [u8],
-    g: &mut [u32],
-    rhs: &mut [u32],
-    parent: &mut [u8],
-    k1: &mut [u32],
-    k2: &mut [u32],
-) {
+// The player with another value of an entry of the table that a number names.
+fn poked(p: Player, table: usize, at: usize, v: usize) -> Player {
+    let mut q = p;
+    let i = at % 320;
+    let j = at % 1280;
     match table {
-        0 => set_wide(g, at, to_wide(v)),
-        1 => set_wide(rhs, at, to_wide(v)),
-        2 => set_byte(parent, at, to_byte(v)),
-        3 => set_wide(k1, at, to_wide(v)),
-        4 => set_wide(k2, at, to_wide(v)),
-        _ => set_byte(plan, at, to_byte(v)),
+        0 => q.g[i] = to_wide(v),
+        1 => q.rhs[i] = to_wide(v),
+        2 => q.parent[i] = to_byte(v),
+        3 => q.k1[i] = to_wide(v),
+        4 => q.k2[i] = to_wide(v),
+        _ => q.plan[j] = to_byte(v),
     }
+    q
 }
 
 // The number of values that a spoiled entry of a table may get.
@@ -530,119 +509,54 @@ fn range_of(table: usize) -> usize {
 }
 
 // The entries of the table that a number names.
-fn room_of(table: usize, plan: &[u8], way: &[u16]) -> usize {
+fn room_of(table: usize, cells: usize) -> usize {
     if table == 5 {
-        return plan.len();
+        return cells % 321 * 4;
     }
-    way.len()
+    cells
 }
 
 // Spoils a drawn entry and searches. If that is refused, the entry gets its old value back.
-fn spoil(
-    p: Player,
-    plan: &mut [u8],
-    g: &mut [u32],
-    rhs: &mut [u32],
-    parent: &mut [u8],
-    k1: &mut [u32],
-    k2: &mut [u32],
-    place: &mut [u16],
-    list: &mut [u16],
-    way: &mut [u16],
-) -> Player {
+fn spoil(p: Player) -> Player {
     let first = next(p.luck);
     let second = next(first);
     let third = next(second);
     let table = below(first, 6);
-    let at = below(second, room_of(table, plan, way));
+    let at = below(second, room_of(table, p.cells));
     let v = below(third, range_of(table));
-    let old = peek(table, at, plan, g, rhs, parent, k1, k2);
-    poke(table, at, v, plan, g, rhs, parent, k1, k2);
-    let q = seek(
-        with_luck(p, third),
-        plan,
-        g,
-        rhs,
-        parent,
-        k1,
-        k2,
-        place,
-        list,
-        way,
-    );
+    let q = seek(with_luck(poked(p, table, at, v), third));
     if q.kind != 4 {
         return q;
     }
-    poke(table, at, old, plan, g, rhs, parent, k1, k2);
-    q
+    poked(q, table, at, peek(p, table, at))
 }
 
 // One drawn action.
-fn act(
-    p: Player,
-    plan: &mut [u8],
-    g: &mut [u32],
-    rhs: &mut [u32],
-    parent: &mut [u8],
-    k1: &mut [u32],
-    k2: &mut [u32],
-    place: &mut [u16],
-    list: &mut [u16],
-    way: &mut [u16],
-) -> Player {
+fn act(p: Player) -> Player {
     let l = next(p.luck);
     let w = below(l, 8);
     let q = with_luck(p, l);
     if w < 4 {
-        return change(q, w == 3, plan, g, rhs, parent, k1, k2, place, list, way);
+        return change(q, w == 3);
     }
     if w == 4 {
-        return put_hunter(q, plan, g, rhs, parent, k1, k2, place, way);
+        return put_hunter(q);
     }
     if w == 5 {
-        return put_target(q, plan, g, rhs, parent, k1, k2, place, way);
+        return put_target(q);
     }
     if w == 6 {
-        return spoil(q, plan, g, rhs, parent, k1, k2, place, list, way);
+        return spoil(q);
     }
     q
 }
 
-// One round: an action and a search.
-fn play_round(
-    p: Player,
-    plan: &mut [u8],
-    g: &mut [u32],
-    rhs: &mut [u32],
-    parent: &mut [u8],
-    k1: &mut [u32],
-    k2: &mut [u32],
-    place: &mut [u16],
-    list: &mut [u16],
-    way: &mut [u16],
-) -> Player {
-    let q = act(p, plan, g, rhs, parent, k1, k2, place, list, way);
-    seek(q, plan, g, rhs, parent, k1, k2, place, list, way)
-}
-
-// All rounds of a session.
-fn rounds(
-    p: Player,
-    many: usize,
-    plan: &mut [u8],
-    g: &mut [u32],
-    rhs: &mut [u32],
-    parent: &mut [u8],
-    k1: &mut [u32],
-    k2: &mut [u32],
-    place: &mut [u16],
-    list: &mut [u16],
-    way: &mut [u16],
-) -> Player {
+// All rounds of a session: an action and a search each.
+fn rounds(p: Player, many: usize) -> Player {
     let mut q = p;
     let mut i = 0;
     while i < many {
-        q = play_round(q, plan, g, rhs, parent, k1, k2, place, list, way);
+        q = seek(act(q));
         i += 1;
     }
     q
@@ -681,44 +595,56 @@ fn drawn_byte(l: Luck, width: usize, height: usize, i: usize) -> Byte {
     }
 }
 
-// Draws the plan. Returns the generator after it.
-fn draw_plan(l: Luck, width: usize, height: usize, plan: &mut [u8]) -> Luck {
+// Draws the plan.
+fn drawn_plan(l: Luck, width: usize, height: usize, cells: usize) -> Drawn {
+    let many = cells % 321 * 4;
+    let mut plan = [7u8; 1280];
     let mut luck = l;
     let mut i = 0;
-    while i < plan.len() {
+    while i < many {
         let b = drawn_byte(luck, width, height, i);
         plan[i] = b.cost;
         luck = b.luck;
         i += 1;
     }
-    luck
+    Drawn { plan, luck }
 }
 
-// Opens a session at drawn cells.
-fn begin(
-    l: Luck,
-    width: usize,
-    height: usize,
-    walks: bool,
-    plan: &[u8],
-    g: &mut [u32],
-    rhs: &mut [u32],
-    parent: &mut [u8],
-    k1: &mut [u32],
-    k2: &mut [u32],
-    place: &mut [u16],
-    list: &mut [u16],
-    way: &[u16],
-) -> Player {
-    let first = next(l);
-    let second = next(first);
-    let hunter = below(first, way.len());
-    let target = below(second, way.len());
+// Opens a session at drawn cells of a drawn plan.
+fn begin(number: usize, width: usize, height: usize, cells: usize, walks: bool) -> Player {
+    let n = cells % 321;
+    let m = n * 4;
+    let d = drawn_plan(start(number), width, height, n);
+    let first = next(d.luck);
+    let luck = next(first);
+    let plan = d.plan;
+    let mut g = [7u32; 320];
+    let mut rhs = [7u32; 320];
+    let mut parent = [7u8; 320];
+    let mut k1 = [7u32; 320];
+    let mut k2 = [7u32; 320];
+    let mut place = [7u16; 320];
+    let mut list = [7u16; 320];
+    let way = [65535u16; 320];
     let r = session::open(
         width,
         height,
-        hunter,
-        target,
+        below(first, n),
+        below(luck, n),
+        &plan[0..m],
+        &mut g[0..n],
+        &mut rhs[0..n],
+        &mut parent[0..n],
+        &mut k1[0..n],
+        &mut k2[0..n],
+        &mut place[0..n],
+        &mut list[0..n],
+    );
+    let session = r.session;
+    let answer = r.answer;
+    let digest = Digest { a: 1, b: 2 };
+    let p = Player {
+        session,
         plan,
         g,
         rhs,
@@ -727,13 +653,9 @@ fn begin(
         k2,
         place,
         list,
-    );
-    let s = r.session;
-    let a = r.answer;
-    let digest = Digest { a: 1, b: 2 };
-    let p = Player {
-        session: s,
-        luck: second,
+        way,
+        cells: n,
+        luck,
         digest,
         calls: 0,
         steps: 0,
@@ -741,7 +663,7 @@ fn begin(
         length: 0,
         walks,
     };
-    note(p, told_of(a), plan, g, rhs, parent, k1, k2, place, way)
+    note(p, told_of(answer))
 }
 
 // Prints a number and a blank.
@@ -763,162 +685,15 @@ fn print_line(number: usize, width: usize, height: usize, p: Player) {
 }
 
 // Plays one session on a drawn plan, and prints its line.
-fn play(
-    number: usize,
-    width: usize,
-    height: usize,
-    many: usize,
-    walks: bool,
-    plan: &mut [u8],
-    g: &mut [u32],
-    rhs: &mut [u32],
-    parent: &mut [u8],
-    k1: &mut [u32],
-    k2: &mut [u32],
-    place: &mut [u16],
-    list: &mut [u16],
-    way: &mut [u16],
-) {
-    let l = draw_plan(start(number), width, height, plan);
-    let p = begin(
-        l,
-        width,
-        height,
-        walks,
-        plan,
-        g,
-        rhs,
-        parent,
-        k1,
-        k2,
-        place,
-        list,
-        way,
-    );
-    let q = rounds(p, many, plan, g, rhs, parent, k1, k2, place, list, way);
-    print_line(number, width, height, q);
+fn play(number: usize, width: usize, height: usize, cells: usize, many: usize, walks: bool) {
+    let p = begin(number, width, height, cells, walks);
+    print_line(number, width, height, rounds(p, many));
 }
 
-// The least plan.
-fn least() {
-    let mut plan = [7u8; 4];
-    let mut g = [7u32; 1];
-    let mut rhs = [7u32; 1];
-    let mut parent = [7u8; 1];
-    let mut k1 = [7u32; 1];
-    let mut k2 = [7u32; 1];
-    let mut place = [7u16; 1];
-    let mut list = [7u16; 1];
-    let mut way = [65535u16; 1];
-    play(
-        0,
-        1,
-        1,
-        40,
-        false,
-        &mut plan,
-        &mut g,
-        &mut rhs,
-        &mut parent,
-        &mut k1,
-        &mut k2,
-        &mut place,
-        &mut list,
-        &mut way,
-    );
-}
-
-// Two cells.
-fn pair() {
-    let mut plan = [7u8; 8];
-    let mut g = [7u32; 2];
-    let mut rhs = [7u32; 2];
-    let mut parent = [7u8; 2];
-    let mut k1 = [7u32; 2];
-    let mut k2 = [7u32; 2];
-    let mut place = [7u16; 2];
-    let mut list = [7u16; 2];
-    let mut way = [65535u16; 2];
-    play(
-        1,
-        2,
-        1,
-        40,
-        false,
-        &mut plan,
-        &mut g,
-        &mut rhs,
-        &mut parent,
-        &mut k1,
-        &mut k2,
-        &mut place,
-        &mut list,
-        &mut way,
-    );
-}
-
-// A long session, over a renewal at search number 1,000.
-fn long() {
-    let mut plan = [7u8; 252];
-    let mut g = [7u32; 63];
-    let mut rhs = [7u32; 63];
-    let mut parent = [7u8; 63];
-    let mut k1 = [7u32; 63];
-    let mut k2 = [7u32; 63];
-    let mut place = [7u16; 63];
-    let mut list = [7u16; 63];
-    let mut way = [65535u16; 63];
-    play(
-        2,
-        9,
-        7,
-        1500,
-        true,
-        &mut plan,
-        &mut g,
-        &mut rhs,
-        &mut parent,
-        &mut k1,
-        &mut k2,
-        &mut place,
-        &mut list,
-        &mut way,
-    );
-}
-
-// A larger plan.
-fn large() {
-    let mut plan = [7u8; 1280];
-    let mut g = [7u32; 320];
-    let mut rhs = [7u32; 320];
-    let mut parent = [7u8; 320];
-    let mut k1 = [7u32; 320];
-    let mut k2 = [7u32; 320];
-    let mut place = [7u16; 320];
-    let mut list = [7u16; 320];
-    let mut way = [65535u16; 320];
-    play(
-        3,
-        64,
-        5,
-        60,
-        false,
-        &mut plan,
-        &mut g,
-        &mut rhs,
-        &mut parent,
-        &mut k1,
-        &mut k2,
-        &mut place,
-        &mut list,
-        &mut way,
-    );
-}
-
-// The four sessions, one after the other.
+// The four sessions: the least plan, two cells, a long session over a renewal at search number 1,000, and a larger plan.
 fn main() {
-    least();
-    pair();
-    long();
-    large();
+    play(0, 1, 1, 1, 40, false);
+    play(1, 2, 1, 2, 40, false);
+    play(2, 9, 7, 63, 1500, true);
+    play(3, 64, 5, 320, 60, false);
 }

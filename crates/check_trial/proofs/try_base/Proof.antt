@@ -1,22 +1,17 @@
--- The loop's invariant: the tables keep their lengths. The measure is the tables that are left.
-use Prim.Native.Nat.{_-_}
-use mathlib.Core.Path.{refl}
-use native.Mathlib.Omega.{arith}
+-- The measure is what is left of the tables and the record.
+use Prim.Native.Nat.{_-_, _≤_}
 use borrow.Author.Needs.{needs}
-use Rattle.check_trial.proofs.Same.{Same}
 use Rattle.check_trial.proofs.try_base.Statement.{statement}
 use Rattle.check_trial.proofs.try_base.Tie as tie
 
 abbrev Inv-loop : tie.InvT-loop
-Inv-loop number s plan₀ g₀ rhs₀ parent₀ k1₀ k2₀ place₀ list₀ told₀ table₀ plan g rhs parent k1 k2 place list told table =
-    Same plan₀ g₀ rhs₀ parent₀ k1₀ k2₀ place₀ list₀ plan g rhs parent k1 k2 place list
+Inv-loop number b told₀ table₀ told table = table ≤ 10
 
 abbrev μ-loop : tie.MeasureT-loop
-μ-loop number s plan₀ g₀ rhs₀ parent₀ k1₀ k2₀ place₀ list₀ told₀ table₀ plan g rhs parent k1 k2 place list told table =
-    10 - table
+μ-loop number b told₀ table₀ told table = 10 - table
 
 loop-holds : tie.Need-loop-holds Inv-loop μ-loop
-loop-holds c = record { plans = refl; gs = refl; rhss = refl; parents = refl; k1s = refl; k2s = refl; places = refl; lists = refl }
+loop-holds c = search needs
 
 try-table-requires : tie.Need-try-table-requires Inv-loop μ-loop
 try-table-requires c κs = search needs
@@ -25,37 +20,13 @@ print-line-requires : tie.Need-print-line-requires Inv-loop μ-loop
 print-line-requires c κs = search needs
 
 add-table : tie.Need-add-table Inv-loop μ-loop
-add-table c = omega (arith, c .before .before .before .before .before .before .before .before .before .before .before .before .before .before .before .before .before .before .before .before .before .before .before .before .before .before .loop-test .taken)
+add-table c = search needs
 
 loop-less : tie.Need-loop-less Inv-loop μ-loop
-loop-less c = omega (arith, c .before .before .before .before .before .before .before .before .before .before .before .before .before .before .before .before .before .before .before .before .before .before .before .before .before .before .loop-test .taken)
+loop-less c = search needs
 
 loop-again : tie.Need-loop-again Inv-loop μ-loop
-loop-again c = omega (arith, c .before .before .before .before .before .before .before .before .before .before .before .before .before .before .before .before .before .try-table .kept, c .before .before .before .before .before .before .before .before .before .before .before .before .before .before .before .before .before .before .before .before .before .before .before .before .before .before .before .loop .inv)
-
-same-length : tie.Need-same-length Inv-loop μ-loop
-same-length c = c .before .loop .inv .plans
-
-same-length-2 : tie.Need-same-length-2 Inv-loop μ-loop
-same-length-2 c = c .before .loop .inv .gs
-
-same-length-3 : tie.Need-same-length-3 Inv-loop μ-loop
-same-length-3 c = c .before .loop .inv .rhss
-
-same-length-4 : tie.Need-same-length-4 Inv-loop μ-loop
-same-length-4 c = c .before .loop .inv .parents
-
-same-length-5 : tie.Need-same-length-5 Inv-loop μ-loop
-same-length-5 c = c .before .loop .inv .k1s
-
-same-length-6 : tie.Need-same-length-6 Inv-loop μ-loop
-same-length-6 c = c .before .loop .inv .k2s
-
-same-length-7 : tie.Need-same-length-7 Inv-loop μ-loop
-same-length-7 c = c .before .loop .inv .places
-
-same-length-8 : tie.Need-same-length-8 Inv-loop μ-loop
-same-length-8 c = c .before .loop .inv .lists
+loop-again c = search needs
 
 returns : tie.Need-returns Inv-loop μ-loop
 returns c = search needs
@@ -72,12 +43,4 @@ try-base-spec =
     add-table
     loop-less
     loop-again
-    same-length
-    same-length-2
-    same-length-3
-    same-length-4
-    same-length-5
-    same-length-6
-    same-length-7
-    same-length-8
     returns)

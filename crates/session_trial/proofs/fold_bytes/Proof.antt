@@ -1,23 +1,20 @@
 -- The measure is what is left of the table.
 use Prim.Native.Nat.{_-_, _≤_}
-use mathlib.Core.Path.{_≡_, refl}
-use native.Mathlib.Omega.{arith}
 use borrow.Author.Needs.{needs}
-use lib.ListN.{length}
 use Rattle.session_trial.proofs.fold_bytes.Statement.{statement}
 use Rattle.session_trial.proofs.fold_bytes.Tie as tie
 
 abbrev Inv-loop : tie.InvT-loop
-Inv-loop t seen₀ i₀ seen i = length t ≡ length t
+Inv-loop cells t many seen₀ i₀ seen i = i ≤ many
 
 abbrev μ-loop : tie.MeasureT-loop
-μ-loop t seen₀ i₀ seen i = length t - i
+μ-loop cells t many seen₀ i₀ seen i = many - i
 
 loop-holds : tie.Need-loop-holds Inv-loop μ-loop
-loop-holds c = refl
+loop-holds c = search needs
 
-shared-slice-read-of-byte : tie.Need-shared-slice-read-of-byte Inv-loop μ-loop
-shared-slice-read-of-byte c = search needs
+array-read-of-byte : tie.Need-array-read-of-byte Inv-loop μ-loop
+array-read-of-byte c = search needs
 
 of-byte-requires : tie.Need-of-byte-requires Inv-loop μ-loop
 of-byte-requires c κs = search needs
@@ -44,7 +41,7 @@ fold-bytes-spec =
     Inv-loop
     μ-loop
     loop-holds
-    shared-slice-read-of-byte
+    array-read-of-byte
     of-byte-requires
     fold-requires
     add-i

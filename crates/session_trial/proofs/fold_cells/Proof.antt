@@ -1,26 +1,23 @@
 -- The measure is what is left of the table.
 use Prim.Native.Nat.{_-_, _≤_}
-use mathlib.Core.Path.{_≡_, refl}
-use native.Mathlib.Omega.{arith}
 use borrow.Author.Needs.{needs}
-use lib.ListN.{length}
 use Rattle.session_trial.proofs.fold_cells.Statement.{statement}
 use Rattle.session_trial.proofs.fold_cells.Tie as tie
 
 abbrev Inv-loop : tie.InvT-loop
-Inv-loop t seen₀ i₀ seen i = length t ≡ length t
+Inv-loop cells t many seen₀ i₀ seen i = i ≤ many
 
 abbrev μ-loop : tie.MeasureT-loop
-μ-loop t seen₀ i₀ seen i = length t - i
+μ-loop cells t many seen₀ i₀ seen i = many - i
 
 loop-holds : tie.Need-loop-holds Inv-loop μ-loop
-loop-holds c = refl
+loop-holds c = search needs
 
 mul-cell-of : tie.Need-mul-cell-of Inv-loop μ-loop
 mul-cell-of c = search needs
 
-shared-slice-read-cell-of : tie.Need-shared-slice-read-cell-of Inv-loop μ-loop
-shared-slice-read-cell-of c = search needs
+array-read-cell-of : tie.Need-array-read-cell-of Inv-loop μ-loop
+array-read-cell-of c = search needs
 
 cell-of-requires : tie.Need-cell-of-requires Inv-loop μ-loop
 cell-of-requires c κs = search needs
@@ -48,7 +45,7 @@ fold-cells-spec =
     μ-loop
     loop-holds
     mul-cell-of
-    shared-slice-read-cell-of
+    array-read-cell-of
     cell-of-requires
     fold-requires
     add-i

@@ -1,26 +1,23 @@
 -- The measure is what is left of the table.
 use Prim.Native.Nat.{_-_, _≤_}
-use mathlib.Core.Path.{_≡_, refl}
-use native.Mathlib.Omega.{arith}
 use borrow.Author.Needs.{needs}
-use lib.ListN.{length}
 use Rattle.session_trial.proofs.fold_queued.Statement.{statement}
 use Rattle.session_trial.proofs.fold_queued.Tie as tie
 
 abbrev Inv-loop : tie.InvT-loop
-Inv-loop place seen₀ i₀ seen i = length place ≡ length place
+Inv-loop cells place many seen₀ i₀ seen i = i ≤ many
 
 abbrev μ-loop : tie.MeasureT-loop
-μ-loop place seen₀ i₀ seen i = length place - i
+μ-loop cells place many seen₀ i₀ seen i = many - i
 
 loop-holds : tie.Need-loop-holds Inv-loop μ-loop
-loop-holds c = refl
+loop-holds c = search needs
 
 mul-is-queued : tie.Need-mul-is-queued Inv-loop μ-loop
 mul-is-queued c = search needs
 
-shared-slice-read-is-queued : tie.Need-shared-slice-read-is-queued Inv-loop μ-loop
-shared-slice-read-is-queued c = search needs
+array-read-is-queued : tie.Need-array-read-is-queued Inv-loop μ-loop
+array-read-is-queued c = search needs
 
 is-queued-requires : tie.Need-is-queued-requires Inv-loop μ-loop
 is-queued-requires c κs = search needs
@@ -48,7 +45,7 @@ fold-queued-spec =
     μ-loop
     loop-holds
     mul-is-queued
-    shared-slice-read-is-queued
+    array-read-is-queued
     is-queued-requires
     fold-requires
     add-i

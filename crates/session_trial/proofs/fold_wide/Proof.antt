@@ -1,26 +1,23 @@
 -- The measure is what is left of the table.
 use Prim.Native.Nat.{_-_, _≤_}
-use mathlib.Core.Path.{_≡_, refl}
-use native.Mathlib.Omega.{arith}
 use borrow.Author.Needs.{needs}
-use lib.ListN.{length}
 use Rattle.session_trial.proofs.fold_wide.Statement.{statement}
 use Rattle.session_trial.proofs.fold_wide.Tie as tie
 
 abbrev Inv-loop : tie.InvT-loop
-Inv-loop t seen₀ i₀ seen i = length t ≡ length t
+Inv-loop cells t many seen₀ i₀ seen i = i ≤ many
 
 abbrev μ-loop : tie.MeasureT-loop
-μ-loop t seen₀ i₀ seen i = length t - i
+μ-loop cells t many seen₀ i₀ seen i = many - i
 
 loop-holds : tie.Need-loop-holds Inv-loop μ-loop
-loop-holds c = refl
+loop-holds c = search needs
 
 mul-wide : tie.Need-mul-wide Inv-loop μ-loop
 mul-wide c = search needs
 
-shared-slice-read-wide : tie.Need-shared-slice-read-wide Inv-loop μ-loop
-shared-slice-read-wide c = search needs
+array-read-wide : tie.Need-array-read-wide Inv-loop μ-loop
+array-read-wide c = search needs
 
 wide-requires : tie.Need-wide-requires Inv-loop μ-loop
 wide-requires c κs = search needs
@@ -48,7 +45,7 @@ fold-wide-spec =
     μ-loop
     loop-holds
     mul-wide
-    shared-slice-read-wide
+    array-read-wide
     wide-requires
     fold-requires
     add-i
