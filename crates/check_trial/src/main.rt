@@ -1,5 +1,6 @@
 // Asks the check of soundness about sound tables and about tables with one entry broken, and prints a digest of what it says.
 // The expected output comes from compare/src/bin/check_trial.rs, an independent model. Section 8 of compare/PROTOCOL.md says what is asked.
+use change;
 use search;
 use session;
 use tables;
@@ -99,7 +100,7 @@ fn change(b: Base, cell: usize, direction: usize, cost: u8) -> Answered {
     let mut k2 = b.k2;
     let mut place = b.place;
     let mut list = b.list;
-    let r = session::change_move(
+    let r = change::change_move(
         b.session,
         &mut plan,
         &g,

@@ -12,8 +12,9 @@ use Rattle.plan.specs.Cells.{Size}
 use Rattle.plan.specs.Costs.{planOf}
 use Rattle.tables.specs.declared.Session.{Session}
 use Rattle.tables.specs.Lent.{Tables, cells, floor, Fits}
-use Rattle.session.specs.Refusals.{Ruled, fails, holds, Passed, MoveRules, OpenRules}
+use Rattle.session.specs.Refusals.{Ruled, fails, holds, Passed, OpenRules}
 use Rattle.session.proofs.RefusalLaws.{passed-zero, onward}
+use Rattle.change.specs.Refusals.{MoveRules}
 use Rattle.drill_file.specs.File as drill-file
 use Rattle.drill.specs.Numbers.{openNumber, moveNumber}
 use Rattle.drill.specs.Output.{planIn, fileNumber}

@@ -23,15 +23,17 @@ use Rattle.session.specs.declared.Answer.{Answer}
 use Rattle.session.specs.declared.Answer.the-variants.{Done, Refused}
 use Rattle.session.specs.declared.Reply.{Reply}
 use Rattle.session.specs.Refusals.{Ruled, fails, holds, Passed, passed, answered}
-use Rattle.session.specs.Promises.{hunterAt, targetAt, Places, Opens, withPlan, Changes}
+use Rattle.session.specs.Promises.{hunterAt, targetAt, Places, Opens}
 use Rattle.session.proofs.RefusalLaws.{passed-zero, onward, place-granted, sound-rules}
-use Rattle.session.proofs.Theorems.{opened-sound, change-keeps-sound, hunter-placed-sound, target-placed-sound}
+use Rattle.session.proofs.Theorems.{opened-sound, hunter-placed-sound, target-placed-sound}
+use Rattle.change.specs.Promise.{withPlan, Changes}
+use Rattle.change.proofs.Theorems.{change-keeps-sound}
 use Rattle.search.specs.declared.Outcome.{Outcome}
 use Rattle.search.specs.declared.Answer as search-answer
 use Rattle.search.specs.Answer.{toldBy, answerOf, cellsOf}
 use Rattle.search.specs.Promise.{outcome, written, Searched, Searches}
-use Rattle.search.specs.Demands.{RightlyAnswered, caught, none-leads, way-shown}
-use Rattle.search.proofs.Demands.{demand-2, demand-3}
+use Rattle.demands.specs.Demands.{RightlyAnswered, caught, none-leads, way-shown}
+use Rattle.demands.proofs.Demands.{demand-2, demand-3}
 use Rattle.drill_file.specs.declared.Action.{Action}
 use Rattle.drill_file.specs.declared.Action.the-variants.{Change, Hunter, Target, Search, Bad}
 use Rattle.drill_file.specs.declared.Trailer as drill-file-trailer

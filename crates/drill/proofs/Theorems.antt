@@ -13,11 +13,12 @@ use Rattle.tables.specs.Sound.{Sound}
 use Rattle.session.specs.declared.Answer.the-variants.{Done, Refused}
 use Rattle.session.specs.declared.Reply.{Reply}
 use Rattle.session.specs.Refusals.{answered}
-use Rattle.session.specs.Promises.{hunterAt, targetAt, Places, Changes}
+use Rattle.session.specs.Promises.{hunterAt, targetAt, Places}
+use Rattle.change.specs.Promise.{Changes}
 use Rattle.search.specs.declared.Outcome.{Outcome}
 use Rattle.search.specs.Answer.{toldBy}
 use Rattle.search.specs.Promise.{Searches}
-use Rattle.search.proofs.Demands.{not-refused}
+use Rattle.demands.proofs.Demands.{not-refused}
 use Rattle.drill_file.specs.declared.Action.the-variants.{Change, Hunter, Target, Search}
 use Rattle.drill_file.specs.File.{actionsFrom, actionsOf, formNumber}
 use Rattle.lines.specs.Text.{refusedLine, line}

@@ -1,4 +1,5 @@
 // A whole drill: a file opened, and its actions played one after the other, each with the line that it prints.
+use change;
 use drill_file;
 use lines;
 use search;
@@ -108,7 +109,7 @@ fn play_change(
     requires { ⌜ Ready s (given plan g rhs parent k1 k2 place list) (now way) (now text) used ⌝ }
     ensures { λ r. ⌜ Turns (Change u d cost) s (before plan g rhs parent k1 k2 place list) (now (text .entry)) used r (after plan g rhs parent k1 k2 place list) (now (text .exit)) ⌝ }
 {
-    let reply = session::change_sound(s, plan, g, rhs, parent, k1, k2, place, list, u, d, cost);
+    let reply = change::change_sound(s, plan, g, rhs, parent, k1, k2, place, list, u, d, cost);
     put_reply(reply, text, used)
 }
 

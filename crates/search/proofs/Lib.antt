@@ -1,3 +1,2 @@
 pub mod RefusalLaws
 pub mod SearchLaws
-pub mod Demands

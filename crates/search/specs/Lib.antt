@@ -1,4 +1,3 @@
--- The search: its answer in document 01's words (Answer), what the call promises for every input (Promise), and the letter's three demands (Demands).
+-- The search: its answer in document 01's words (Answer), and what the call promises for every input (Promise).
 pub mod Answer
 pub mod Promise
-pub mod Demands

@@ -1,4 +1,3 @@
 pub mod RefusalLaws
-pub mod EffectLaws
 pub mod OpenLaws
 pub mod Theorems

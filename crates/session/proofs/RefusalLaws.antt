@@ -5,11 +5,11 @@ use Prim.Native.Nat.{ℕ, zero, suc, _<_}
 use native.Mathlib.Omega.{arith}
 use Rattle.plan.specs.Cells.{Size}
 use Rattle.tables.specs.declared.Session.{Session}
-use Rattle.tables.specs.Lent.{Tables, cells, Fits}
+use Rattle.tables.specs.Lent.{Tables, cells}
 use Rattle.tables.specs.Sound.{Sound}
 use Rattle.tables.proofs.SoundLaws.{sound-fits}
 use Rattle.session.specs.declared.Answer.the-variants.{Done, Refused}
-use Rattle.session.specs.Refusals.{Ruled, fails, holds, Passed, passed, answered, PlaceRules, OpenRules, TableRules, MoveRules, ChangeRules, Openable, Workable}
+use Rattle.session.specs.Refusals.{Ruled, fails, holds, Passed, passed, answered, PlaceRules, OpenRules, TableRules, Openable}
 
 -- ---- answers
 
@@ -37,9 +37,6 @@ place-number s {k = k} {l = l} = ruled-one (ruled-one passed-one) k l
 pub open-number : {width height hunter target : ℕ} {t : Tables} {k l : ℕ} → OpenRules width height hunter target t k → OpenRules width height hunter target t l → k ≡ l
 open-number {k = k} {l = l} = ruled-one (ruled-one (ruled-one (ruled-one (ruled-one passed-one)))) k l
 
-pub change-number : {s : Session} {t : Tables} {u d cost k l : ℕ} → ChangeRules s t u d cost k → ChangeRules s t u d cost l → k ≡ l
-change-number {k = k} {l = l} = ruled-one (ruled-one (ruled-one (ruled-one (ruled-one (ruled-one passed-one))))) k l
-
 -- ---- number 0
 
 pub granted : {P : Type 0} {n : ℕ} {rest : ℕ → Type 0} {k : ℕ} → Ruled P (suc n) rest k → k ≡ 0 → P × rest k
@@ -57,15 +54,6 @@ open-granted r e =
     let d = granted (c .1) e in
     record { fits = b .0; hunter-in = c .0 .0; target-in = c .0 .1; obeys = record { size = a .0; sized = b .0 .plan; bytes = granted (d .1) e .0; edges = d .0 } }
 
-pub change-granted : {s : Session} {t : Tables} {u d cost k : ℕ} → ChangeRules s t u d cost k → k ≡ 0 → Workable s t u d cost
-change-granted r e =
-    let a = granted r e in
-    let b = granted (a .1) e in
-    let c = granted (b .1) e in
-    let f = granted (c .1) e in
-    let g = granted (f .1) e in
-    record { sound = c .0; cell-in = f .0; direction = g .0 .0; stays-in = g .0 .1; byte = granted (g .1) e .0 }
-
 -- ---- every rule holds
 
 pub passed-zero : {k : ℕ} → Passed k → k ≡ 0
@@ -80,9 +68,6 @@ place-passes s r z l = passed-zero (onward l (onward z r))
 
 pub open-passes : {width height hunter target : ℕ} {t : Tables} {k : ℕ} → OpenRules width height hunter target t k → Openable width height hunter target t → k ≡ 0
 open-passes r o = passed-zero (onward (o .obeys .bytes) (onward (o .obeys .edges) (onward (o .hunter-in, o .target-in) (onward (o .fits) (onward (o .obeys .size) r)))))
-
-pub change-passes : {s : Session} {t : Tables} {u d cost k : ℕ} → ChangeRules s t u d cost k → Fits (cells s) t → Workable s t u d cost → k ≡ 0
-change-passes r f w = passed-zero (onward (w .byte) (onward (w .direction, w .stays-in) (onward (w .cell-in) (onward (w .sound) (onward f (onward (w .sound .plan .size) r))))))
 
 -- ---- rules one after the other
 

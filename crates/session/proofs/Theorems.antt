@@ -1,13 +1,13 @@
 -- What the calls' statements settle: two results that one allows are equal, the order inside the heap apart; a call that no rule refuses is done; sound tables stay sound.
 use mathlib.Core.Path.{_≡_, refl, sym, ap, subst, _∙_}
-use mathlib.Core.Logic.{⊎-elim, _≢_}
+use mathlib.Core.Logic.{_≢_}
 use mathlib.Core.Bool.{Bool, false}
 use mathlib.Core.List.{List}
-use Prim.Native.Nat.{ℕ, zero, suc, _+_, _*_, _≤_, _<_}
+use Prim.Native.Nat.{ℕ, zero, suc, _≤_, _<_}
 use native.Mathlib.Omega.{arith}
 use native.Mathlib.Decide.{ℕ-discrete, decLt}
-use lib.ListN.{getD, set, List·getD-eq-default}
-use lib.Seq.{ext-getD, set-getD}
+use lib.ListN.{getD, List·getD-eq-default}
+use lib.Seq.{ext-getD}
 use Rattle.method.specs.Tables as method
 use Rattle.method.specs.Session.{opened}
 use Rattle.method.specs.Sound as method-sound
@@ -18,29 +18,27 @@ use Rattle.queue.proofs.PlaceLaws.{counted as tallied, not-absent, place-used}
 use Rattle.plan.specs.Cells.{Size}
 use Rattle.plan.specs.Costs.{planOf, Obeys}
 use Rattle.plan.specs.Grid.{graphOf}
-use Rattle.plan.proofs.CellLaws.{enters}
 use Rattle.plan.proofs.GridLaws.{graph-laws}
-use Rattle.plan.proofs.ChangeLaws.{changed-obeys, changed-altered}
 use Rattle.tables.specs.declared.Session.{Session}
-use Rattle.tables.specs.Lent.{Tables, tables, cells, floor, graph, session, core, Fits}
+use Rattle.tables.specs.Lent.{Tables, tables, cells, core}
 use Rattle.tables.specs.Sound.{Sound}
 use Rattle.session.specs.declared.Answer.{Answer}
 use Rattle.session.specs.declared.Answer.the-variants.{Done}
 use Rattle.session.specs.declared.Reply.{Reply}
-use Rattle.session.specs.Refusals.{answered, Openable, Workable}
-use Rattle.session.specs.Promises.{hunterAt, targetAt, counted, begun, nothing, Places, Opened, Opens, Touches, withPlan, replanned, enteredCell, backCode, oldCost, WorkedIn, Changes, Names, Alike}
-use Rattle.session.proofs.RefusalLaws.{place-number, open-number, change-number, place-granted, open-granted, change-granted, place-passes, open-passes, change-passes}
+use Rattle.session.specs.Refusals.{answered, Openable}
+use Rattle.session.specs.Promises.{hunterAt, targetAt, begun, nothing, Places, Opened, Opens, Names, Alike}
+use Rattle.session.proofs.RefusalLaws.{place-number, open-number, place-granted, open-granted, place-passes, open-passes}
 
 -- ---- answers and replies
 
-done-zero : (n : ℕ) → answered n ≡ Done → n ≡ 0
+pub done-zero : (n : ℕ) → answered n ≡ Done → n ≡ 0
 done-zero zero e = refl
 done-zero (suc n) e = let z : _≡_ {A = ℕ} 0 1 = cc in absurd (omega arith)
 
 reply : Session → Answer → Reply
 reply s a = record { session = s; answer = a }
 
-same-reply : {r r′ : Reply} → r .session ≡ r′ .session → r .answer ≡ r′ .answer → r ≡ r′
+pub same-reply : {r r′ : Reply} → r .session ≡ r′ .session → r .answer ≡ r′ .answer → r ≡ r′
 unfolding reply
 same-reply {r} {r′} e f = ap (λ x. reply x (r .answer)) e ∙ ap (λ x. reply (r′ .session) x) f
 
@@ -52,12 +50,9 @@ place-done {s} P z l = let e = place-passes s (P .rules) z l in (P .answer ∙ a
 pub open-done : {width height hunter target : ℕ} {t t′ : Tables} {r : Reply} → Opens width height hunter target t r t′ → Openable width height hunter target t → r .answer ≡ Done
 open-done P o = P .answer ∙ ap answered (open-passes (P .rules) o)
 
-pub change-done : {s : Session} {t t′ : Tables} {u d cost : ℕ} {r : Reply} → Changes s t u d cost r t′ → Fits (cells s) t → Workable s t u d cost → r .answer ≡ Done
-change-done P f w = P .answer ∙ ap answered (change-passes (P .rules) f w)
-
 -- ---- a refusal changes nothing
 
-refusal : {n : ℕ} {a : Answer} → a ≡ answered n → a ≢ Done → n ≢ 0
+pub refusal : {n : ℕ} {a : Answer} → a ≡ answered n → a ≢ Done → n ≢ 0
 refusal e n z = n (e ∙ ap answered z)
 
 pub place-refused : {s placed : Session} {cell : ℕ} {r : Reply} → Places s placed cell r → r .answer ≢ Done → r .session ≡ s
@@ -65,9 +60,6 @@ place-refused P n = P .refused (refusal (P .answer) n)
 
 pub open-refused : {width height hunter target : ℕ} {t t′ : Tables} {r : Reply} → Opens width height hunter target t r t′ → r .answer ≢ Done → (r .session ≡ nothing) × (t′ ≡ t)
 open-refused P n = P .refused (refusal (P .answer) n)
-
-pub change-refused : {s : Session} {t t′ : Tables} {u d cost : ℕ} {r : Reply} → Changes s t u d cost r t′ → r .answer ≢ Done → (r .session ≡ s) × (t′ ≡ t)
-change-refused P n = P .refused (refusal (P .answer) n)
 
 -- ---- two results of one placing
 
@@ -167,7 +159,7 @@ one-opening {a = a} {a′ = a′} {r = r} {r′ = r′} P Q = let x = at (ℕ-di
         let q = Q .refused (λ z. n (e ∙ z)) in
         (p .0 ∙ sym (q .0), p .1 ∙ sym (q .1))
 
--- ---- two results of one change: equal but for the order inside the heap
+-- ---- two results that are equal but for the order inside the heap
 
 pub alike-same : {count : ℕ} {t t′ : Tables} → t ≡ t′ → Alike count t t′
 alike-same {count} e = record { plan = ap (λ (x : Tables). x .plan) e; core = ap core e; named = λ x. (subst (λ (y : Tables). Names count y x) e, subst (λ (y : Tables). Names count y x) (sym e)); unused = λ i _. ap (λ (x : Tables). getD (x .list) i 0) e }
@@ -182,63 +174,6 @@ alike {width} {room} a a′ p c h h′ =
       n,
       record { plan = p; core = c; named = λ x. (same-named a a′ h g m x, same-named a′ a g h (sym m) x); unused = same-unused h g },
     )
-
-pub one-change : {s : Session} {t a a′ : Tables} {u d cost : ℕ} {r r′ : Reply} → Changes s t u d cost r a → Changes s t u d cost r′ a′ → (r ≡ r′) × Alike (r .session .count) a a′
-one-change {s} {a = a} {a′ = a′} {r = r} {r′ = r′} P Q = let x = at (ℕ-discrete (P .number) 0) in (same-reply (x .0) (P .answer ∙ ap answered e ∙ sym (Q .answer)), x .1)
-  where
-    e : P .number ≡ Q .number
-    e = change-number (P .rules) (Q .rules)
-
-    at : Dec (P .number ≡ 0) → (r .session ≡ r′ .session) × Alike (r .session .count) a a′
-    at (yes z) =
-        let p = P .done z in
-        let q = Q .done (sym e ∙ z) in
-        let c : core a ≡ core a′ = p .1 .is ∙ sym (q .1 .is) in
-        let x = alike a a′ (p .1 .plan ∙ sym (q .1 .plan)) c (p .1 .heap) (q .1 .heap) in
-        (p .0 ∙ ap (counted s) (x .0) ∙ sym (q .0), x .1)
-    at (no n) =
-        let p = P .refused n in
-        let q = Q .refused (λ z. n (e ∙ z)) in
-        (p .0 ∙ sym (q .0), alike-same (p .1 ∙ sym (q .1)))
-
--- ---- where a change writes the byte alone
-
-module _ {s : Session} {t t′ : Tables} {u d cost : ℕ} {r : Reply} (P : Changes s t u d cost r t′) where
-  -- The cell entered is not written: record and tables are as they were, but for the byte.
-  pub change-byte-alone : r .answer ≡ Done → (Touches (s .origin) (t .g) (t .rhs) (t .parent) (enteredCell s u d) (backCode d) u (oldCost s t u d) cost → ⊥)
-      → (r .session ≡ s) × (t′ ≡ withPlan t (replanned s t u d cost))
-  change-byte-alone e n =
-      let p = P .done (done-zero (P .number) (sym (P .answer) ∙ e)) in
-      let q = p .1 .untouched n in
-      (p .0 ∙ ap (counted s) (q .0), q .1)
-
-  -- A move into the search's hunter.
-  pub change-into-hunter : r .answer ≡ Done → enteredCell s u d ≡ s .origin → (r .session ≡ s) × (t′ ≡ withPlan t (replanned s t u d cost))
-  change-into-hunter e h = change-byte-alone e (λ x. x .0 h)
-
-  -- A fall that gives no smaller sum.
-  pub change-no-smaller-sum : r .answer ≡ Done → cost < oldCost s t u d → getD (t .rhs) (enteredCell s u d) 0 ≤ getD (t .g) u 0 + cost → (r .session ≡ s) × (t′ ≡ withPlan t (replanned s t u d cost))
-  change-no-smaller-sum e f l =
-      change-byte-alone e (λ x. ⊎-elim (λ (h : (cost < oldCost s t u d) × (getD (t .g) u 0 + cost < getD (t .rhs) (enteredCell s u d) 0)). omega (arith, h .1, l))
-      (λ (h : (oldCost s t u d < cost) × (getD (t .parent) (enteredCell s u d) 0 ≡ backCode d)). omega (arith, h .0, f)) (x .1))
-
-  -- A rise where u is not the parent.
-  pub change-not-the-parent : r .answer ≡ Done → oldCost s t u d < cost → getD (t .parent) (enteredCell s u d) 0 ≢ backCode d → (r .session ≡ s) × (t′ ≡ withPlan t (replanned s t u d cost))
-  change-not-the-parent e f n =
-      change-byte-alone e (λ x. ⊎-elim (λ (h : (cost < oldCost s t u d) × (getD (t .g) u 0 + cost < getD (t .rhs) (enteredCell s u d) 0)). omega (arith, h .0, f))
-      (λ (h : (oldCost s t u d < cost) × (getD (t .parent) (enteredCell s u d) 0 ≡ backCode d)). n (h .1)) (x .1))
-
-  -- "An equal cost changes nothing."
-  pub change-equal-cost : cost ≡ oldCost s t u d → (r .session ≡ s) × (t′ ≡ t)
-  change-equal-cost e = at (ℕ-discrete (P .number) 0)
-    where
-      at : Dec (P .number ≡ 0) → (r .session ≡ s) × (t′ ≡ t)
-      at (yes z) =
-          let q = change-byte-alone (P .answer ∙ ap answered z)
-          (λ x. ⊎-elim (λ (h : (cost < oldCost s t u d) × (getD (t .g) u 0 + cost < getD (t .rhs) (enteredCell s u d) 0)). omega (arith, h .0, e))
-          (λ (h : (oldCost s t u d < cost) × (getD (t .parent) (enteredCell s u d) 0 ≡ backCode d)). omega (arith, h .0, e)) (x .1)) in
-          (q .0, q .1 ∙ ap (withPlan t) (ap (set (t .plan) (4 * u + d)) e ∙ set-getD (t .plan) (4 * u + d) 0))
-      at (no n) = P .refused n
 
 -- ---- sound tables
 
@@ -259,35 +194,7 @@ opened-sound {width} {height} {hunter} {target} {t} {t′} {r} P e =
       heap = p .heap;
     }
 
--- So does a change of a move.
-pub changed-sound : {s : Session} {t t′ : Tables} {u d cost : ℕ} {r : Reply} → Changes s t u d cost r t′ → r .answer ≡ Done → Sound (r .session) t′
-changed-sound {s} {t} {t′} {u} {d} {cost} {r} P e =
-    let z = done-zero (P .number) (sym (P .answer) ∙ e) in
-    let p = P .done z in
-    subst (λ x. Sound x t′) (sym (p .0)) (at (change-granted (P .rules) z) (p .1))
-  where
-    at : {n : ℕ} → Workable s t u d cost → WorkedIn s t u d cost n t′ → Sound (counted s n) t′
-    at w p = record {
-      plan =
-          subst (λ x. Obeys (planOf (s .width) (s .height) x)) (sym (p .plan))
-          (changed-obeys (floor s (t .plan)) (w .sound .plan) u d cost (w .cell-in) (w .direction) (w .stays-in) (w .byte));
-      numbers =
-          subst (λ x. method-sound.Sound (graphOf (planOf (s .width) (s .height) x)) (session s) (core t′)) (sym (p .plan))
-          (subst (λ T. method-sound.Sound (graph s (withPlan t (replanned s t u d cost))) (session s) T) (sym (p .is))
-          (method-theorems.move-changed-sound (changed-altered (floor s (t .plan)) (w .sound .plan) u d cost (w .cell-in) (w .direction) (w .stays-in) (w .byte)) (w .sound .numbers)
-          (enters (w .sound .plan .size .wide) (w .stays-in) .inside)));
-      heap = p .heap;
-    }
-
--- A change keeps sound tables sound, done or refused.
-pub change-keeps-sound : {s : Session} {t t′ : Tables} {u d cost : ℕ} {r : Reply} → Sound s t → Changes s t u d cost r t′ → Sound (r .session) t′
-change-keeps-sound {s} {t} {t′} {r = r} S P = at (ℕ-discrete (P .number) 0)
-  where
-    at : Dec (P .number ≡ 0) → Sound (r .session) t′
-    at (yes z) = changed-sound P (P .answer ∙ ap answered z)
-    at (no n) = let p = P .refused n in subst (λ x. Sound x t′) (sym (p .0)) (subst (Sound s) (sym (p .1)) S)
-
--- So does placing the hunter or the target, which writes no table.
+-- Placing the hunter or the target, which writes no table, keeps sound tables sound.
 placed-sound : {s placed : Session} {t : Tables} {cell : ℕ} {r : Reply} → Sound s t → (cell < cells s → Sound placed t) → Places s placed cell r → Sound (r .session) t
 placed-sound {s} {placed} {t} {cell} {r} S f P = at (ℕ-discrete (P .number) 0)
   where

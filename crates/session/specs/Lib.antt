@@ -1,5 +1,3 @@
--- The public calls open, place and change: their refusals (Refusals), and what each promises for every input (Promises).
--- Effects holds what the inner functions of a change promise each other.
+-- The public calls open and place, and what every call on a session shares: answers and refusals (Refusals), what each call promises for every input (Promises).
 pub mod Refusals
 pub mod Promises
-pub mod Effects

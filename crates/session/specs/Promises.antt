@@ -1,20 +1,17 @@
--- What each call promises: its answer, the record and every table, for every input.
+-- What place and open promise: the answer, the record and every table, for every input.
 use mathlib.Core.Path.{_≡_}
-use mathlib.Core.Logic.{_⊎_, _≢_, _↔_}
+use mathlib.Core.Logic.{_≢_, _↔_}
 use mathlib.Core.List.{List}
-use Prim.Native.Nat.{ℕ, _+_, _*_, _≤_, _<_}
+use Prim.Native.Nat.{ℕ, _*_, _≤_, _<_}
 use lib.ListN.{getD}
-use Rattle.method.specs.Tables as method
-use Rattle.method.specs.Session.{huntOf, fresh, moveChanged}
+use Rattle.method.specs.Session.{fresh}
 use Rattle.queue.specs.Queue.{Heap}
-use Rattle.plan.specs.Directions.{opposite}
-use Rattle.plan.specs.Cells.{entered}
-use Rattle.plan.specs.Costs.{planOf, byte, withByte}
+use Rattle.plan.specs.Costs.{planOf}
 use Rattle.plan.specs.Grid.{graphOf}
 use Rattle.tables.specs.declared.Session.{Session}
-use Rattle.tables.specs.Lent.{Tables, tables, cells, floor, graph, session, core}
+use Rattle.tables.specs.Lent.{Tables, core}
 use Rattle.session.specs.declared.Reply.{Reply}
-use Rattle.session.specs.Refusals.{answered, PlaceRules, OpenRules, ChangeRules}
+use Rattle.session.specs.Refusals.{answered, PlaceRules, OpenRules}
 
 -- ---- the record
 
@@ -24,10 +21,6 @@ hunterAt s cell = record { width = s .width; height = s .height; hunter = cell; 
 
 abbrev pub targetAt : Session → ℕ → Session
 targetAt s cell = record { width = s .width; height = s .height; hunter = s .hunter; target = cell; origin = s .origin; goal = s .goal; km = s .km; count = s .count; searches = s .searches }
-
--- The record with another count of the queue.
-abbrev pub counted : Session → ℕ → Session
-counted s n = record { width = s .width; height = s .height; hunter = s .hunter; target = s .target; origin = s .origin; goal = s .goal; km = s .km; count = n; searches = s .searches }
 
 -- The record that open makes: "km and search number 0; the cells given stand as placed and as the last search's"; the hunter alone is queued.
 abbrev pub begun : ℕ → ℕ → ℕ → ℕ → Session
@@ -62,51 +55,6 @@ pub record Opens (width height hunter target : ℕ) (t : Tables) (r : Reply) (t�
   pub answer : r .answer ≡ answered number
   pub refused : number ≢ 0 → (r .session ≡ nothing) × (t′ ≡ t)
   pub done : number ≡ 0 → (r .session ≡ begun width height hunter target) × Opened width height hunter target t t′
-
--- ---- change a move
-
--- The cell v is written: it is not the search's hunter, and the cost falls so that "g(u) + cost < rhs(v)", or rises where "u is its parent"; k is the parent code of the move at v.
-abbrev pub Touches : (hunter : ℕ) (g rhs parent : List ℕ) (v k u old new : ℕ) → Type 0
-Touches hunter g rhs parent v k u old new =
-    (v ≢ hunter) × (((new < old) × (getD g u 0 + new < getD rhs v 0)) ⊎ ((old < new) × (getD parent v 0 ≡ k)))
-
--- The tables with another plan, all else as it was.
-abbrev pub withPlan : Tables → List ℕ → Tables
-withPlan t plan = tables plan (t .g) (t .rhs) (t .parent) (t .k1) (t .k2) (t .place) (t .list)
-
--- The plan with the new cost, as bytes.
-abbrev pub replanned : Session → Tables → ℕ → ℕ → ℕ → List ℕ
-replanned s t u d cost = withByte (floor s (t .plan)) u d cost .bytes
-
--- The cell that the move enters, the move's parent code there, and its byte before the change.
-abbrev pub enteredCell : Session → ℕ → ℕ → ℕ
-enteredCell s u d = entered (s .width) u d
-
-abbrev pub backCode : ℕ → ℕ
-backCode d = opposite d + 1
-
-abbrev pub oldCost : Session → Tables → ℕ → ℕ → ℕ
-oldCost s t u d = byte (floor s (t .plan)) u d
-
--- What the method makes of a changed move, on the plan as it then is.
-abbrev pub methodChange : Session → Tables → ℕ → ℕ → ℕ → method.Tables
-methodChange s t u d cost =
-    moveChanged (huntOf (graph s (withPlan t (replanned s t u d cost))) (session s)) (core t) (enteredCell s u d) (backCode d) u (oldCost s t u d) cost
-
--- The change is worked in: the byte is set, the tables t became the method's, with a true heap of `count` cells. Where the cell entered is not written, only the byte changed.
-pub record WorkedIn (s : Session) (t : Tables) (u d cost count : ℕ) (t′ : Tables) : Type 0 where
-  pub plan : t′ .plan ≡ replanned s t u d cost
-  pub is : core t′ ≡ methodChange s t u d cost
-  pub heap : Heap (s .width) (cells s) count (t′ .k1) (t′ .k2) (t′ .place) (t′ .list)
-  pub untouched : (Touches (s .origin) (t .g) (t .rhs) (t .parent) (enteredCell s u d) (backCode d) u (oldCost s t u d) cost → ⊥) → (count ≡ s .count) × (t′ ≡ withPlan t (replanned s t u d cost))
-
--- A refused change returns the record as it came and changes no table; else the count is the only field of the record that can change.
-pub record Changes (s : Session) (t : Tables) (u d cost : ℕ) (r : Reply) (t′ : Tables) : Type 0 where
-  pub number : ℕ
-  pub rules : ChangeRules s t u d cost number
-  pub answer : r .answer ≡ answered number
-  pub refused : number ≢ 0 → (r .session ≡ s) × (t′ ≡ t)
-  pub done : number ≡ 0 → (r .session ≡ counted s (r .session .count)) × WorkedIn s t u d cost (r .session .count) t′
 
 -- ---- what a statement leaves open
 

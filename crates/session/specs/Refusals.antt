@@ -1,7 +1,7 @@
--- Document 01's table of refusals: for each call its rules, each with its number, in the order of checking.
+-- Document 01's table of refusals: for each call its rules, each with its number, in the order of checking. Here those of place, open and every call on a session's tables.
 use Prim.Native.Nat.{ℕ, zero, suc, _*_, _<_}
-use Rattle.plan.specs.Cells.{Size, Stays}
-use Rattle.plan.specs.Costs.{planOf, IsByte, Bytes, Edges, Obeys}
+use Rattle.plan.specs.Cells.{Size}
+use Rattle.plan.specs.Costs.{planOf, Bytes, Edges, Obeys}
 use Rattle.tables.specs.declared.Session.{Session}
 use Rattle.tables.specs.Lent.{Tables, cells, Fits}
 use Rattle.tables.specs.Sound.{Sound}
@@ -39,10 +39,6 @@ OpenRules width height hunter target t =
     (Ruled (Bytes (planOf width height (t .plan))) 5
     Passed))))
 
--- A direction is 0 to 3, and the move stays in the plan.
-abbrev pub IsMove : Session → ℕ → ℕ → Type 0
-IsMove s u d = (d < 4) × Stays (s .width) (s .height) u d
-
 -- The tables of a session: the size; the lengths; "tables not sound".
 abbrev pub TableRules : Session → Tables → (ℕ → Type 0) → ℕ → Type 0
 TableRules s t rest =
@@ -51,29 +47,9 @@ TableRules s t rest =
     (Ruled (Sound s t) 6
     rest))
 
--- A move's new cost: the cell; "direction above 3, or the move leaves the plan"; the cost byte.
-abbrev pub MoveRules : Session → ℕ → ℕ → ℕ → ℕ → Type 0
-MoveRules s u d cost =
-    Ruled (u < cells s) 3
-    (Ruled (IsMove s u d) 4
-    (Ruled (IsByte cost) 5
-    Passed))
-
--- A change: its tables, then the move.
-abbrev pub ChangeRules : Session → Tables → ℕ → ℕ → ℕ → ℕ → Type 0
-ChangeRules s t u d cost = TableRules s t (MoveRules s u d cost)
-
 -- What an open that no rule refuses has.
 pub record Openable (width height hunter target : ℕ) (t : Tables) : Type 0 where
   pub fits : Fits (height * width) t
   pub hunter-in : hunter < height * width
   pub target-in : target < height * width
   pub obeys : Obeys (planOf width height (t .plan))
-
--- What a change that no rule refuses has; sound tables have their size and lengths.
-pub record Workable (s : Session) (t : Tables) (u d cost : ℕ) : Type 0 where
-  pub sound : Sound s t
-  pub cell-in : u < cells s
-  pub direction : d < 4
-  pub stays-in : Stays (s .width) (s .height) u d
-  pub byte : IsByte cost

@@ -1,5 +1,6 @@
 // Plays random sessions with the public calls, and prints a digest of every answer, record and table.
 // The expected output comes from compare/src/bin/session_trial.rs, an independent model. Section 7 of compare/PROTOCOL.md says what is played.
+use change;
 use search;
 use session;
 use tables;
@@ -410,7 +411,7 @@ fn change(p: Player, fit: bool) -> Player {
     let mut k2 = p.k2;
     let mut place = p.place;
     let mut list = p.list;
-    let r = session::change_move(
+    let r = change::change_move(
         p.session,
         &mut plan[0..m],
         &g[0..n],

@@ -8,7 +8,7 @@ use Rattle.tables.specs.Lent.{Tables}
 use Rattle.session.specs.declared.Answer.{Answer as CallAnswer}
 use Rattle.session.specs.declared.Answer.the-variants.{Done, Refused as RefusedCall}
 use Rattle.session.specs.declared.Reply.{Reply as CallReply}
-use Rattle.session.specs.Promises.{Changes}
+use Rattle.change.specs.Promise.{Changes}
 use Rattle.search.specs.declared.Answer.{Answer as SearchAnswer}
 use Rattle.search.specs.declared.Answer.the-variants.{Caught, NoWay, Way, Refused}
 use Rattle.station.specs.declared.Reply.{Reply}

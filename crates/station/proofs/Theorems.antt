@@ -8,13 +8,16 @@ use Rattle.tables.specs.Lent.{Tables}
 use Rattle.session.specs.declared.Answer.{Answer as CallAnswer}
 use Rattle.session.specs.declared.Answer.the-variants.{Done, Refused}
 use Rattle.session.specs.declared.Reply.{Reply as CallReply}
-use Rattle.session.specs.Refusals.{PlaceRules, OpenRules, ChangeRules}
-use Rattle.session.specs.Promises.{nothing, Places, Opens, Changes, Alike}
-use Rattle.session.proofs.Theorems.{one-placing, one-opening, one-change}
+use Rattle.session.specs.Refusals.{PlaceRules, OpenRules}
+use Rattle.session.specs.Promises.{nothing, Places, Opens, Alike}
+use Rattle.session.proofs.Theorems.{one-placing, one-opening}
+use Rattle.change.specs.Refusals.{ChangeRules}
+use Rattle.change.specs.Promise.{Changes}
+use Rattle.change.proofs.Theorems.{one-change}
 use Rattle.search.specs.declared.Answer.the-variants.{Refused as RefusedSearch}
 use Rattle.search.specs.declared.Outcome.{Outcome}
 use Rattle.search.specs.Promise.{SearchRules, Searches}
-use Rattle.search.proofs.Demands.{demand-1, one-search}
+use Rattle.demands.proofs.Demands.{demand-1, one-search}
 use Rattle.station.specs.declared.Reply.{Reply}
 use Rattle.station.specs.Told.{reply, callNumbers, searchNumbers, CallTold, SearchTold}
 

@@ -1,5 +1,6 @@
 // The library for programs that are not written in Rattle: each public call as a C function, on numbers and lent tables.
 // An enum cannot cross, so an answer is told in numbers. `include/rongdhesi.h` declares all of this for C.
+use change;
 use plan;
 use search;
 use search::Outcome;
@@ -7,7 +8,8 @@ use session;
 use tables::Session;
 ghost use mathlib.Core.Path.{_≡_};
 ghost use Rattle.tables.specs.Lent.{before, after};
-ghost use Rattle.session.specs.Promises.{hunterAt, targetAt, Places, Opens, Changes};
+ghost use Rattle.session.specs.Promises.{hunterAt, targetAt, Places, Opens};
+ghost use Rattle.change.specs.Promise.{Changes};
 ghost use Rattle.search.specs.Promise.{Searches};
 ghost use Rattle.station.specs.Told.{reply, byteOf, callNumbers, searchNumbers, CallTold, SearchTold, Measures};
 
@@ -226,7 +228,7 @@ pub extern "C" fn rongdhesi_change_move(
     ensures { λ r. ⌜ CallTold (λ x. Changes s (before plan g rhs parent k1 k2 place list) u d (byteOf cost) x (after plan g rhs parent k1 k2 place list)) r ⌝ }
 {
     let byte = byte_of(cost);
-    let called = session::change_move(s, plan, g, rhs, parent, k1, k2, place, list, u, d, byte);
+    let called = change::change_move(s, plan, g, rhs, parent, k1, k2, place, list, u, d, byte);
     told(called)
 }
 

@@ -6,7 +6,7 @@ use Rattle.drill.proofs.play_change.Tie as tie
 use Rattle.drill.proofs.play_change.Reads as reads
 use Rattle.drill.proofs.play_change.Lts as lts
 use Rattle.drill.proofs.put_reply.Reads as put-reply-reads
-use Rattle.session.proofs.change_sound.Reads as change-sound-reads
+use Rattle.change.proofs.change_sound.Reads as change-sound-reads
 
 change-sound-requires : tie.Need-change-sound-requires
 change-sound-requires c κs = search needs

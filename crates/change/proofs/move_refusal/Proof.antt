@@ -1,13 +1,13 @@
 use Rattle.decide.proofs.DecideLaws.{refuted}
 use borrow.Author.Tests.{not-true, not-false}
 use Rattle.session.specs.Refusals.{fails, holds, passed}
 use Rattle.plan.proofs.MoveLaws.{area, placed}
 use native.Mathlib.Omega.{arith}
 use borrow.Author.Needs.{needs}
-use Rattle.session.proofs.move_refusal.Statement.{statement}
-use Rattle.session.proofs.move_refusal.Tie as tie
-use Rattle.session.proofs.move_refusal.Reads as reads
-use Rattle.session.proofs.move_refusal.Lts as lts
+use Rattle.change.proofs.move_refusal.Statement.{statement}
+use Rattle.change.proofs.move_refusal.Tie as tie
+use Rattle.change.proofs.move_refusal.Reads as reads
+use Rattle.change.proofs.move_refusal.Lts as lts
 use Rattle.plan.proofs.is_byte.Reads as is-byte-reads
 use Rattle.plan.proofs.spot_of.Reads as spot-of-reads
 use Rattle.plan.proofs.stays_in.Reads as stays-in-reads

@@ -10,9 +10,9 @@ use Rattle.plan.specs.Grid.{graphOf}
 use Rattle.tables.specs.declared.Session.{Session}
 use Rattle.tables.specs.Lent.{cells, floor}
 use Rattle.entries.specs.Aims.{Small, mostG}
-use Rattle.session.specs.declared.Effect.{Effect}
-use Rattle.session.specs.declared.Effect.the-variants.{Keeps, To}
-use Rattle.session.specs.Promises.{Touches}
+use Rattle.change.specs.declared.Effect.{Effect}
+use Rattle.change.specs.declared.Effect.the-variants.{Keeps, To}
+use Rattle.change.specs.Promise.{Touches}
 
 -- The plan obeys, the tables that a decision reads have their lengths, every g leaves room for a cost, and both cells are in the plan.
 pub record Deciding (s : Session) (plan g rhs parent : List ℕ) (v u : ℕ) : Type 0 where

@@ -30,11 +30,11 @@ use Rattle.entries.specs.Aims.{aimOf, mostG, mostRhs}
 use Rattle.entries.specs.Became.{Entering, Entered, foundOf}
 use Rattle.entries.proofs.SmallLaws.{sound-small-g, sound-small-rhs, sound-held}
 use Rattle.entries.proofs.FoundLaws.{entering, held-rhs, small-rhs, anew-small}
-use Rattle.session.specs.declared.Effect.{Effect}
-use Rattle.session.specs.declared.Effect.the-variants.{Keeps, To}
-use Rattle.session.specs.Refusals.{Workable}
-use Rattle.session.specs.Promises.{Touches, withPlan, replanned, enteredCell, backCode, oldCost, methodChange, WorkedIn}
-use Rattle.session.specs.Effects.{Deciding, Asked, keeps, falls, rises}
+use Rattle.change.specs.declared.Effect.{Effect}
+use Rattle.change.specs.declared.Effect.the-variants.{Keeps, To}
+use Rattle.change.specs.Refusals.{Workable}
+use Rattle.change.specs.Promise.{Touches, withPlan, replanned, enteredCell, backCode, oldCost, methodChange, WorkedIn}
+use Rattle.change.specs.Effects.{Deciding, Asked, keeps, falls, rises}
 
 -- ---- the decision, return by return
 

@@ -1,12 +1,13 @@
 use mathlib.Core.Path.{refl}
-use Rattle.session.proofs.RefusalLaws.{answer-refused, answer-done, sound-rules, change-granted}
+use Rattle.session.proofs.RefusalLaws.{answer-refused, answer-done, sound-rules}
+use Rattle.change.proofs.RefusalLaws.{change-granted}
 use borrow.Author.Needs.{needs}
-use Rattle.session.proofs.change_sound.Statement.{statement}
-use Rattle.session.proofs.change_sound.Tie as tie
-use Rattle.session.proofs.change_sound.Reads as reads
-use Rattle.session.proofs.change_sound.Lts as lts
-use Rattle.session.proofs.move_refusal.Reads as move-refusal-reads
-use Rattle.session.proofs.work_in.Reads as work-in-reads
+use Rattle.change.proofs.change_sound.Statement.{statement}
+use Rattle.change.proofs.change_sound.Tie as tie
+use Rattle.change.proofs.change_sound.Reads as reads
+use Rattle.change.proofs.change_sound.Lts as lts
+use Rattle.change.proofs.move_refusal.Reads as move-refusal-reads
+use Rattle.change.proofs.work_in.Reads as work-in-reads
 
 move-refusal-requires : tie.Need-move-refusal-requires
 move-refusal-requires c κs = c .before .before .before .before .before .before .before .before .pre .plan .size

@@ -1,13 +1,13 @@
 use native.Mathlib.Omega.{arith}
 use mathlib.Core.Path.{refl}
 use Rattle.session.proofs.RefusalLaws.{answer-refused, table-number, tables-granted}
 use borrow.Author.Needs.{needs}
-use Rattle.session.proofs.change_move.Statement.{statement}
-use Rattle.session.proofs.change_move.Tie as tie
-use Rattle.session.proofs.change_move.Reads as reads
-use Rattle.session.proofs.change_move.Lts as lts
-use Rattle.session.proofs.change_sound.Reads as change-sound-reads
+use Rattle.change.proofs.change_move.Statement.{statement}
+use Rattle.change.proofs.change_move.Tie as tie
+use Rattle.change.proofs.change_move.Reads as reads
+use Rattle.change.proofs.change_move.Lts as lts
+use Rattle.change.proofs.change_sound.Reads as change-sound-reads
 use Rattle.session.proofs.table_refusal.Reads as table-refusal-reads
 
 table-refusal-requires : tie.Need-table-refusal-requires
 table-refusal-requires c κs = search needs

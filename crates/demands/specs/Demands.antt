@@ -13,13 +13,15 @@ use Rattle.tables.specs.Lent.{Tables, cells, graph, session, core}
 use Rattle.tables.specs.Sound.{Sound}
 use Rattle.session.specs.declared.Answer.the-variants.{Refused as RefusedCall}
 use Rattle.session.specs.declared.Reply.{Reply}
-use Rattle.session.specs.Refusals.{PlaceRules, OpenRules, ChangeRules}
-use Rattle.session.specs.Promises.{nothing, Places, Opens, Changes}
+use Rattle.session.specs.Refusals.{PlaceRules, OpenRules}
+use Rattle.session.specs.Promises.{nothing, Places, Opens}
+use Rattle.change.specs.Refusals.{ChangeRules}
+use Rattle.change.specs.Promise.{Changes}
 use Rattle.search.specs.declared.Answer.{Answer}
 use Rattle.search.specs.declared.Answer.the-variants.{Caught, NoWay, Way, Refused}
 use Rattle.search.specs.declared.Outcome.{Outcome}
 use Rattle.search.specs.Answer.{toldBy}
 use Rattle.search.specs.Promise.{SearchRules, outcome, written, Searches}
 
 -- 1. "Every call ends safely for every input and every content of the lent tables": no call below has a `requires`, so the proof of its code says this of every input.
 -- "Faulty input is refused by number, in the fixed order, and such a refusal changes nothing; no caller has to check first": where k is the number of the first

@@ -21,16 +21,17 @@ use Rattle.tables.specs.Lent.{Tables, cells, floor, graph, session, core}
 use Rattle.tables.specs.Sound.{Sound}
 use Rattle.session.specs.Refusals.{answered}
 use Rattle.session.specs.Promises.{Alike}
-use Rattle.session.proofs.RefusalLaws.{answer-refused, place-number, open-number, change-number}
+use Rattle.session.proofs.RefusalLaws.{answer-refused, place-number, open-number}
 use Rattle.session.proofs.Theorems.{alike, alike-same}
+use Rattle.change.proofs.RefusalLaws.{change-number}
 use Rattle.take_over.proofs.TakeOverLaws.{restarting}
 use Rattle.search.specs.declared.Answer.{Answer}
 use Rattle.search.specs.declared.Answer.the-variants.{Caught, NoWay, Way, Refused}
 use Rattle.search.specs.declared.Outcome.{Outcome}
 use Rattle.search.specs.Answer.{toldBy, answerOf, cellsOf}
 use Rattle.search.specs.Promise.{outcome, written, Searched, Searches}
-use Rattle.search.specs.Demands.{RefusesByNumber, stepsOf, RightlyAnswered, caught, none-leads, way-shown, TakesTheSteps, FewSteps}
+use Rattle.demands.specs.Demands.{RefusesByNumber, stepsOf, RightlyAnswered, caught, none-leads, way-shown, TakesTheSteps, FewSteps}
 use Rattle.search.proofs.RefusalLaws.{search-number, search-passes}
 
 -- ---- 1
 

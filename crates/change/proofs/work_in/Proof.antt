@@ -1,9 +1,9 @@
 use native.Mathlib.Omega.{arith}
 use Rattle.plan.proofs.MoveLaws.{area}
-use Rattle.session.proofs.EffectLaws.{entering-sum, entered-in, deciding, kept-worked, asked-entering, set-worked}
+use Rattle.change.proofs.EffectLaws.{entering-sum, entered-in, deciding, kept-worked, asked-entering, set-worked}
 use borrow.Author.Needs.{needs}
-use Rattle.session.proofs.work_in.Statement.{statement}
-use Rattle.session.proofs.work_in.Tie as tie
+use Rattle.change.proofs.work_in.Statement.{statement}
+use Rattle.change.proofs.work_in.Tie as tie
 
 entered-requires : tie.Need-entered-requires
 entered-requires c κs = entering-sum (c .before .before .before .before .before .before .before .before .pre)

@@ -1,0 +1,2 @@
+-- The letter's three demands of the public calls.
+pub mod Demands
