@@ -25,10 +25,10 @@ use Rattle.session.proofs.RefusalLaws.{answer-refused, place-number, open-numbe
 use Rattle.session.proofs.Theorems.{alike, alike-same}
 use Rattle.change.proofs.RefusalLaws.{change-number}
 use Rattle.take_over.proofs.TakeOverLaws.{restarting}
-use Rattle.search.specs.declared.Answer.{Answer}
-use Rattle.search.specs.declared.Answer.the-variants.{Caught, NoWay, Way, Refused}
+use Rattle.answer.specs.declared.Answer.{Answer}
+use Rattle.answer.specs.declared.Answer.the-variants.{Caught, NoWay, Way, Refused}
 use Rattle.search.specs.declared.Outcome.{Outcome}
-use Rattle.search.specs.Answer.{toldBy, answerOf, cellsOf}
+use Rattle.answer.specs.Answer.{toldBy, answerOf, cellsOf}
 use Rattle.search.specs.Promise.{outcome, written, Searched, Searches}
 use Rattle.demands.specs.Demands.{RefusesByNumber, stepsOf, RightlyAnswered, caught, none-leads, way-shown, TakesTheSteps, FewSteps}
 use Rattle.search.proofs.RefusalLaws.{search-number, search-passes}

@@ -17,10 +17,10 @@ use Rattle.session.specs.Refusals.{PlaceRules, OpenRules}
 use Rattle.session.specs.Promises.{nothing, Places, Opens}
 use Rattle.change.specs.Refusals.{ChangeRules}
 use Rattle.change.specs.Promise.{Changes}
-use Rattle.search.specs.declared.Answer.{Answer}
-use Rattle.search.specs.declared.Answer.the-variants.{Caught, NoWay, Way, Refused}
+use Rattle.answer.specs.declared.Answer.{Answer}
+use Rattle.answer.specs.declared.Answer.the-variants.{Caught, NoWay, Way, Refused}
 use Rattle.search.specs.declared.Outcome.{Outcome}
-use Rattle.search.specs.Answer.{toldBy}
+use Rattle.answer.specs.Answer.{toldBy}
 use Rattle.search.specs.Promise.{SearchRules, outcome, written, Searches}
 
 -- 1. "Every call ends safely for every input and every content of the lent tables": no call below has a `requires`, so the proof of its code says this of every input.

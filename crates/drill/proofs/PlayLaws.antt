@@ -29,8 +29,8 @@ use Rattle.session.proofs.Theorems.{opened-sound, hunter-placed-sound, target-p
 use Rattle.change.specs.Promise.{withPlan, Changes}
 use Rattle.change.proofs.Theorems.{change-keeps-sound}
 use Rattle.search.specs.declared.Outcome.{Outcome}
-use Rattle.search.specs.declared.Answer as search-answer
-use Rattle.search.specs.Answer.{toldBy, answerOf, cellsOf}
+use Rattle.answer.specs.declared.Answer as search-answer
+use Rattle.answer.specs.Answer.{toldBy, answerOf, cellsOf}
 use Rattle.search.specs.Promise.{outcome, written, Searched, Searches}
 use Rattle.demands.specs.Demands.{RightlyAnswered, caught, none-leads, way-shown}
 use Rattle.demands.proofs.Demands.{demand-2, demand-3}

@@ -16,7 +16,7 @@ use Rattle.session.specs.Refusals.{answered}
 use Rattle.session.specs.Promises.{hunterAt, targetAt, Places}
 use Rattle.change.specs.Promise.{Changes}
 use Rattle.search.specs.declared.Outcome.{Outcome}
-use Rattle.search.specs.Answer.{toldBy}
+use Rattle.answer.specs.Answer.{toldBy}
 use Rattle.search.specs.Promise.{Searches}
 use Rattle.demands.proofs.Demands.{not-refused}
 use Rattle.drill_file.specs.declared.Action.the-variants.{Change, Hunter, Target, Search}

@@ -8,7 +8,7 @@ use Rattle.plan.specs.Directions.{opposite}
 use Rattle.plan.specs.Cells.{entered}
 use Rattle.plan.specs.Costs.{Plan, cells, byte, withByte}
 use Rattle.plan.specs.Grid.{graphOf}
-use Rattle.search.specs.Answer.{answerOf, cellsOf}
+use Rattle.answer.specs.Answer.{answerOf, cellsOf}
 use Rattle.drill_file.specs.declared.Action.{Action}
 use Rattle.drill_file.specs.declared.Action.the-variants.{Change, Hunter, Target, Search, Bad}
 use Rattle.lines.specs.Text.{refusedLine, line}

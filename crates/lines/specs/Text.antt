@@ -5,8 +5,8 @@ use Prim.Native.Char.{code}
 use Prim.Native.String.{String, [] as empty, _∷_ as _then_}
 use native.Mathlib.Decide.{decLt}
 use Rattle.method.specs.Tables.{choose}
-use Rattle.search.specs.declared.Answer.{Answer}
-use Rattle.search.specs.declared.Answer.the-variants.{Caught, NoWay, Way, Refused}
+use Rattle.answer.specs.declared.Answer.{Answer}
+use Rattle.answer.specs.declared.Answer.the-variants.{Caught, NoWay, Way, Refused}
 
 -- The bytes of a word.
 unfoldable pub bytes : String → List ℕ

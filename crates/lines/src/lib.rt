@@ -1,10 +1,10 @@
 // The lines that are printed, put into a lent buffer.
-use search::Answer;
+use answer::Answer;
 ghost use Prim.Native.Nat.{_+_, _*_, _≤_, _<_};
 ghost use mathlib.Core.List.{[], _∷_, _++_};
 ghost use lib.ListN.{length, take};
-ghost use Rattle.search.specs.Answer.{toldBy};
-ghost use Rattle.search.specs.declared.Answer.the-variants.{Way};
+ghost use Rattle.answer.specs.Answer.{toldBy};
+ghost use Rattle.answer.specs.declared.Answer.the-variants.{Way};
 ghost use Rattle.lines.specs.Text.{bytes, decimal, spaced, refusedLine, line, room};
 ghost use Rattle.lines.specs.Put.{Put};
 

@@ -30,13 +30,13 @@ use Rattle.entries.specs.Aims.{aimOf, hunt, Aimed, Held, mostG, mostKm}
 use Rattle.entries.specs.Became.{Became}
 use Rattle.steps.specs.Loop.{Started, Finished}
 use Rattle.take_over.specs.TakeOver.{AimOf, Holds}
-use Rattle.way.specs.Way.{Leads, Leading, Shows}
-use Rattle.way.proofs.WayLaws.{trail-leads}
-use Rattle.search.specs.declared.Answer.{Answer}
-use Rattle.search.specs.declared.Answer.the-variants.{Caught, NoWay, Way, Refused}
+use Rattle.answer.specs.Way.{Leads, Leading, Shows}
+use Rattle.answer.proofs.WayLaws.{trail-leads}
+use Rattle.answer.specs.declared.Answer.{Answer}
+use Rattle.answer.specs.declared.Answer.the-variants.{Caught, NoWay, Way, Refused}
 use Rattle.search.specs.declared.Outcome.{Outcome}
-use Rattle.search.specs.Answer.{answerOf, cellsOf}
-use Rattle.search.specs.Promise.{outcome, written, Answering, Answers, cut-off, none-leads, way-shown, Searched}
+use Rattle.answer.specs.Answer.{answerOf, cellsOf, Answering, Answers, cut-off, none-there, way-shown}
+use Rattle.search.specs.Promise.{outcome, written, Searched}
 
 -- ---- a catch
 
@@ -235,7 +235,7 @@ module _ {s : Session} {t : Tables} (S : Sound s t) where
           where
             at : {x : Answer} {way′ : List ℕ} → Answers b over steps rhs₂ parent₂ way x way′ → Searched s t way (record { session = leftBy r n (r .searches + 1); answer = x }) t₂ way′
             at (cut-off e) = let z : true ≡ false = sym over-is ∙ e in absurd (true≢false z)
-            at (none-leads _ i) = by-answer (sym (ap answerOf (answer-none i))) (sym (ap (λ y. written (cellsOf y) way) (answer-none i)))
+            at (none-there _ i) = by-answer (sym (ap answerOf (answer-none i))) (sym (ap (λ y. written (cellsOf y) way) (answer-none i)))
             at (way-shown {k} _ f w) =
                 let q = led f in
                 let v = w (q .0) (leads (q .1)) in

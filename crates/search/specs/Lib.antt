@@ -1,3 +1,2 @@
--- The search: its answer in document 01's words (Answer), and what the call promises for every input (Promise).
-pub mod Answer
+-- The search: what the call promises for every input.
 pub mod Promise

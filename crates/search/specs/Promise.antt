@@ -1,25 +1,17 @@
 -- What a search promises: its answer, the record, every table and the way list, for every input.
 use mathlib.Core.Path.{_≡_}
-use mathlib.Core.Bool.{Bool, true, false}
 use mathlib.Core.Logic.{_≢_}
 use mathlib.Core.List.{List, _++_}
-use Prim.Native.Nat.{ℕ, _-_, _≤_, _<_}
-use lib.ListN.{getD, length, drop}
-use Rattle.method.specs.Numbers.{infinite}
+use Prim.Native.Nat.{ℕ, _≤_}
+use lib.ListN.{length, drop}
 use Rattle.method.specs.Session as method
 use Rattle.queue.specs.Queue.{Heap}
-use Rattle.plan.specs.Cells.{Size}
 use Rattle.tables.specs.declared.Session.{Session}
-use Rattle.tables.specs.Lent.{Tables, cells, graph, session, core, Fits}
-use Rattle.tables.specs.Sound.{Sound}
-use Rattle.entries.specs.declared.Aim.{Aim}
-use Rattle.entries.specs.Aims.{area}
+use Rattle.tables.specs.Lent.{Tables, cells, graph, session, core}
 use Rattle.session.specs.Refusals.{Ruled, Passed, TableRules}
-use Rattle.way.specs.Way.{Leading, Shows}
-use Rattle.search.specs.declared.Answer.{Answer}
-use Rattle.search.specs.declared.Answer.the-variants.{NoWay, Way, Refused}
+use Rattle.answer.specs.declared.Answer.the-variants.{Refused}
+use Rattle.answer.specs.Answer.{answerOf, cellsOf}
 use Rattle.search.specs.declared.Outcome.{Outcome}
-use Rattle.search.specs.Answer.{answerOf, cellsOf}
 
 -- The tables of the session; "way list shorter than N".
 abbrev pub SearchRules : Session → Tables → List ℕ → ℕ → Type 0
@@ -51,21 +43,3 @@ pub record Searches (s : Session) (t : Tables) (way : List ℕ) (r : Outcome) (t
   pub rules : SearchRules s t way number
   pub refused : number ≢ 0 → (r .answer ≡ Refused number) × (r .session ≡ s) × (t′ ≡ t) × (way′ ≡ way)
   pub done : number ≡ 0 → Searched s t way r t′ way′
-
--- ---- inside the call
-
--- The answer can be given: where rhs of the target is finite, the parents lead from it to the hunter, whose rhs is not above.
-pub record Answering (a : Aim) (rhs parent way : List ℕ) : Type 0 where
-  pub size : Size (a .width) (a .height)
-  pub hunter-in : a .hunter < area a
-  pub target-in : a .target < area a
-  pub long : length rhs ≡ area a
-  pub led : getD rhs (a .target) 0 ≢ infinite → Leading a parent way
-  pub not-above : getD rhs (a .target) 0 ≢ infinite → getD rhs (a .hunter) 0 ≤ getD rhs (a .target) 0
-
--- The answer given, and the way list after it.
-pub data Answers (a : Aim) (ended : Bool) (steps : ℕ) (rhs parent way : List ℕ) : Answer → List ℕ → Type 0 where
-  cut-off : ended ≡ false → Answers a ended steps rhs parent way (Refused 9) way
-  none-leads : ended ≡ true → getD rhs (a .target) 0 ≡ infinite → Answers a ended steps rhs parent way (NoWay steps) way
-  way-shown : {k : ℕ} {way′ : List ℕ} → ended ≡ true → getD rhs (a .target) 0 ≢ infinite → Shows a parent way k way′
-      → Answers a ended steps rhs parent way (Way (getD rhs (a .target) 0 - getD rhs (a .hunter) 0) steps k) way′

@@ -1,24 +1,15 @@
 // One search: the refusals, the take-over, the steps, and the answer with its way.
-use entries;
-use entries::Aim;
+use answer;
+use answer::Answer;
 use session;
 use steps;
 use tables::Session;
 use take_over;
-use way;
 ghost use Prim.Native.Nat.{_≤_};
 ghost use lib.ListN.{length};
 ghost use Rattle.tables.specs.Lent.{given, before, after, cells};
 ghost use Rattle.tables.specs.Sound.{Sound};
-ghost use Rattle.search.specs.Promise.{SearchRules, Answering, Answers, Searched, Searches};
-
-// Caught at a cell; no way, after so many steps; a way: its cost, the steps, the number of its cells; or refused with document 01's number.
-pub enum Answer {
-    Caught(usize),
-    NoWay(usize),
-    Way(u32, usize, usize),
-    Refused(u8),
-}
+ghost use Rattle.search.specs.Promise.{SearchRules, Searched, Searches};
 
 // What a search returns: the record as it leaves it, and the answer.
 pub struct Outcome {
@@ -51,25 +42,6 @@ fn refusal(
     0
 }
 
-// The answer after the last step: cut off, none, or the way, which is written.
-fn answered(a: Aim, ran: steps::Ran, rhs: &[u32], parent: &[u8], way: &mut [u16]) -> Answer
-    requires { ⌜ Answering a (now rhs) (now parent) (now way) ⌝ }
-    ensures { λ r. ⌜ Answers a (ran .ended) (ran .steps) (now (rhs .entry)) (now (parent .entry)) (now (way .entry)) r (now (way .exit)) ⌝ }
-{
-    if !ran.ended {
-        return Answer::Refused(9);
-    }
-    let t = a.target;
-    let far = rhs[t];
-    if far == entries::INFINITE {
-        return Answer::NoWay(ran.steps);
-    }
-    let h = a.hunter;
-    let near = rhs[h];
-    let shown = way::write_way(a, parent, way);
-    Answer::Way(far - near, ran.steps, shown)
-}
-
 // A search of sound tables: for a caller who knows that they are, so that the check is not paid.
 pub fn search_sound(
     s: Session,
@@ -98,7 +70,7 @@ pub fn search_sound(
     let ran = steps::run(a, plan, g, rhs, parent, k1, k2, place, list, t.count);
     t.count = ran.count;
     t.searches += 1;
-    let answer = answered(a, ran, rhs, parent, way);
+    let answer = answer::answered(a, ran.ended, ran.steps, rhs, parent, way);
     Outcome { session: t, answer }
 }
 

@@ -1,5 +1,6 @@
 // Plays random sessions with the public calls, and prints a digest of every answer, record and table.
 // The expected output comes from compare/src/bin/session_trial.rs, an independent model. Section 7 of compare/PROTOCOL.md says what is played.
+use answer;
 use change;
 use search;
 use session;
@@ -293,30 +294,30 @@ fn told_of(a: session::Answer) -> Told {
 }
 
 // The numbers of a search's answer.
-fn found_of(a: search::Answer) -> Told {
+fn found_of(a: answer::Answer) -> Told {
     match a {
-        search::Answer::Caught(_) => Told {
+        answer::Answer::Caught(_) => Told {
             kind: 3,
             number: 0,
             cost: 0,
             steps: 0,
             length: 1,
         },
-        search::Answer::NoWay(steps) => Told {
+        answer::Answer::NoWay(steps) => Told {
             kind: 2,
             number: 0,
             cost: 0,
             steps,
             length: 0,
         },
-        search::Answer::Way(cost, steps, length) => Told {
+        answer::Answer::Way(cost, steps, length) => Told {
             kind: 1,
             number: 0,
             cost: wide(cost),
             steps,
             length,
         },
-        search::Answer::Refused(number) => Told {
+        answer::Answer::Refused(number) => Told {
             kind: 4,
             number: of_byte(number),
             cost: 0,

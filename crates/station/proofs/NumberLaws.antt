@@ -9,8 +9,8 @@ use Rattle.session.specs.declared.Answer.{Answer as CallAnswer}
 use Rattle.session.specs.declared.Answer.the-variants.{Done, Refused as RefusedCall}
 use Rattle.session.specs.declared.Reply.{Reply as CallReply}
 use Rattle.change.specs.Promise.{Changes}
-use Rattle.search.specs.declared.Answer.{Answer as SearchAnswer}
-use Rattle.search.specs.declared.Answer.the-variants.{Caught, NoWay, Way, Refused}
+use Rattle.answer.specs.declared.Answer.{Answer as SearchAnswer}
+use Rattle.answer.specs.declared.Answer.the-variants.{Caught, NoWay, Way, Refused}
 use Rattle.station.specs.declared.Reply.{Reply}
 use Rattle.station.specs.Told.{reply, callNumbers, searchNumbers, byteOf}
 

@@ -14,7 +14,7 @@ use Rattle.session.proofs.Theorems.{one-placing, one-opening}
 use Rattle.change.specs.Refusals.{ChangeRules}
 use Rattle.change.specs.Promise.{Changes}
 use Rattle.change.proofs.Theorems.{one-change}
-use Rattle.search.specs.declared.Answer.the-variants.{Refused as RefusedSearch}
+use Rattle.answer.specs.declared.Answer.the-variants.{Refused as RefusedSearch}
 use Rattle.search.specs.declared.Outcome.{Outcome}
 use Rattle.search.specs.Promise.{SearchRules, Searches}
 use Rattle.demands.proofs.Demands.{demand-1, one-search}

@@ -10,9 +10,9 @@ use Rattle.session.specs.declared.Answer.{Answer as CallAnswer}
 use Rattle.session.specs.declared.Answer.the-variants.{Done, Refused}
 use Rattle.session.specs.declared.Reply.{Reply as CallReply}
 use Rattle.session.specs.Refusals.{Ruled, Passed}
-use Rattle.search.specs.declared.Answer.{Answer as SearchAnswer}
+use Rattle.answer.specs.declared.Answer.{Answer as SearchAnswer}
 use Rattle.search.specs.declared.Outcome.{Outcome}
-use Rattle.search.specs.Answer.{Name, caught, none-leads, way, refusal, toldBy}
+use Rattle.answer.specs.Answer.{Name, caught, none-leads, way, refusal, toldBy}
 use Rattle.station.specs.declared.Reply.{Reply}
 use Rattle.station.specs.declared.Lengths.{Lengths}
 

@@ -1,5 +1,6 @@
 // The library for programs that are not written in Rattle: each public call as a C function, on numbers and lent tables.
 // An enum cannot cross, so an answer is told in numbers. `include/rongdhesi.h` declares all of this for C.
+use answer;
 use change;
 use plan;
 use search;
@@ -90,7 +91,7 @@ fn search_told(called: Outcome) -> Reply
     let session = called.session;
     let answer = called.answer;
     match answer {
-        search::Answer::Caught(_) => {
+        answer::Answer::Caught(_) => {
             return Reply {
                 session,
                 kind: CAUGHT,
@@ -100,7 +101,7 @@ fn search_told(called: Outcome) -> Reply
                 cells: 1,
             };
         }
-        search::Answer::NoWay(steps) => {
+        answer::Answer::NoWay(steps) => {
             return Reply {
                 session,
                 kind: NO_WAY,
@@ -110,7 +111,7 @@ fn search_told(called: Outcome) -> Reply
                 cells: 0,
             };
         }
-        search::Answer::Way(cost, steps, cells) => {
+        answer::Answer::Way(cost, steps, cells) => {
             return Reply {
                 session,
                 kind: WAY,
@@ -120,7 +121,7 @@ fn search_told(called: Outcome) -> Reply
                 cells,
             };
         }
-        search::Answer::Refused(number) => {
+        answer::Answer::Refused(number) => {
             return refused(session, number);
         }
     }

@@ -13,7 +13,7 @@ use Rattle.plan.proofs.MoveLaws as moves
 use Rattle.plan.proofs.GridLaws.{into-is}
 use Rattle.entries.specs.declared.Aim.{Aim}
 use Rattle.entries.specs.Aims.{area, floor, hunt}
-use Rattle.way.specs.Way.{Leads, home, link, parentOf, Linked, Followed, Leading, Counts, Shows}
+use Rattle.answer.specs.Way.{Leads, home, link, parentOf, Linked, Followed, Leading, Counts, Shows}
 
 -- ---- where the parents lead
 

@@ -3,9 +3,9 @@ use Prim.Native.Nat.{_-_}
 use native.Mathlib.Omega.{arith}
 use Rattle.plan.proofs.MoveLaws as moves
 use Rattle.entries.specs.Aims.{area}
-use Rattle.way.proofs.WayLaws.{Passing, passing-first, linked, passing-few, passing-more, passing-all}
-use Rattle.way.proofs.passed.Statement.{statement}
-use Rattle.way.proofs.passed.Tie as tie
+use Rattle.answer.proofs.WayLaws.{Passing, passing-first, linked, passing-few, passing-more, passing-all}
+use Rattle.answer.proofs.passed.Statement.{statement}
+use Rattle.answer.proofs.passed.Tie as tie
 
 abbrev Inv-loop : tie.InvT-loop
 Inv-loop a parent n₀ s₀ n s = Passing a parent n s

@@ -2,9 +2,9 @@
 use native.Mathlib.Omega.{arith}
 use lib.ListN.{length-set}
 use Rattle.plan.proofs.MoveLaws as moves
-use Rattle.way.proofs.WayLaws.{Writing, leads-long, writing-first, writing-room, writing-apart, linked, writing-more, writing-all}
-use Rattle.way.proofs.write_way.Statement.{statement}
-use Rattle.way.proofs.write_way.Tie as tie
+use Rattle.answer.proofs.WayLaws.{Writing, leads-long, writing-first, writing-room, writing-apart, linked, writing-more, writing-all}
+use Rattle.answer.proofs.write_way.Statement.{statement}
+use Rattle.answer.proofs.write_way.Tie as tie
 
 abbrev Inv-loop : tie.InvT-loop
 Inv-loop a parent way₀ count i₀ s₀ way i s = Writing a parent way₀ count i s way

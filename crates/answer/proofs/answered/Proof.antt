@@ -1,9 +1,9 @@
 use native.Mathlib.Omega.{arith}
 use borrow.Author.Tests.{not-true, not-false}
-use Rattle.search.specs.Promise.{cut-off, none-leads, way-shown}
+use Rattle.answer.specs.Answer.{cut-off, none-there, way-shown}
 use borrow.Author.Needs.{needs}
-use Rattle.search.proofs.answered.Statement.{statement}
-use Rattle.search.proofs.answered.Tie as tie
+use Rattle.answer.proofs.answered.Statement.{statement}
+use Rattle.answer.proofs.answered.Tie as tie
 
 returns : tie.Need-returns
 returns c = cut-off (not-true _ (c .if1 .taken))
@@ -15,7 +15,7 @@ shared-slice-read-far : tie.Need-shared-slice-read-far
 shared-slice-read-far c = search needs
 
 returns-2 : tie.Need-returns-2
-returns-2 c = none-leads (not-false _ (c .before .before .if1 .left)) (c .if2 .taken)
+returns-2 c = none-there (not-false _ (c .before .before .if1 .left)) (c .if2 .taken)
 
 mul-near : tie.Need-mul-near
 mul-near c = search needs
@@ -24,10 +24,10 @@ shared-slice-read-near : tie.Need-shared-slice-read-near
 shared-slice-read-near c = search needs
 
 write-way-requires : tie.Need-write-way-requires
-write-way-requires c κs = c .before .before .before .before .before .before .before .before .before .pre .led (c .before .before .if2 .left)
+write-way-requires c κs = c .before .before .before .before .before .before .before .before .pre .led (c .before .before .if2 .left)
 
-sub-t14 : tie.Need-sub-t14
-sub-t14 c = omega (arith, c .before .before .before .before .before .before .before .before .before .before .before .before .pre .not-above (c .before .before .before .before .before .if2 .left))
+sub-t15 : tie.Need-sub-t15
+sub-t15 c = omega (arith, c .before .before .before .before .before .before .before .before .before .before .before .pre .not-above (c .before .before .before .before .before .if2 .left))
 
 same-length : tie.Need-same-length
 same-length c = search needs
@@ -46,6 +46,6 @@ answered-spec =
     mul-near
     shared-slice-read-near
     write-way-requires
-    sub-t14
+    sub-t15
     same-length
     returns-3)

@@ -1,8 +1,8 @@
 -- The byte read is the parent's direction plus 1.
-use Rattle.way.proofs.WayLaws.{linked-asks}
+use Rattle.answer.proofs.WayLaws.{linked-asks}
 use borrow.Author.Needs.{needs}
-use Rattle.way.proofs.parent_of.Statement.{statement}
-use Rattle.way.proofs.parent_of.Tie as tie
+use Rattle.answer.proofs.parent_of.Statement.{statement}
+use Rattle.answer.proofs.parent_of.Tie as tie
 
 shared-slice-read-entered : tie.Need-shared-slice-read-entered
 shared-slice-read-entered c = search needs
