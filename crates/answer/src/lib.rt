@@ -54,7 +54,14 @@ fn write_way(a: Aim, parent: &[u8], way: &mut [u16]) -> usize
 }
 
 // The answer after the last step: cut off, none, or the way, which is written.
-pub fn answered(a: Aim, ended: bool, steps: usize, rhs: &[u32], parent: &[u8], way: &mut [u16]) -> Answer
+pub fn answered(
+    a: Aim,
+    ended: bool,
+    steps: usize,
+    rhs: &[u32],
+    parent: &[u8],
+    way: &mut [u16],
+) -> Answer
     requires { ⌜ Answering a (now rhs) (now parent) (now way) ⌝ }
     ensures { λ r. ⌜ Answers a ended steps (now (rhs .entry)) (now (parent .entry)) (now (way .entry)) r (now (way .exit)) ⌝ }
 {

@@ -18,13 +18,10 @@ use Rattle.plan.specs.Grid.{graphOf}
 use Rattle.plan.specs.Reached.{At}
 use Rattle.plan.specs.declared.Spot.{Spot}
 use Rattle.plan.proofs.CellLaws.{enters}
-use Rattle.plan.proofs.GridLaws.{graph-laws}
 use Rattle.plan.proofs.MoveLaws.{area, sum-long, cost-of}
 use Rattle.plan.proofs.ChangeLaws.{changed-obeys}
 use Rattle.tables.specs.declared.Session.{Session}
 use Rattle.tables.specs.Lent.{Tables, tables, cells, floor, graph, core}
-use Rattle.tables.specs.Sound.{Sound}
-use Rattle.entries.specs.declared.Aim.{Aim}
 use Rattle.entries.specs.declared.Found.{Found}
 use Rattle.entries.specs.Aims.{aimOf, mostG, mostRhs}
 use Rattle.entries.specs.Became.{Entering, Entered, foundOf}

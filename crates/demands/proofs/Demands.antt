@@ -1,8 +1,8 @@
 -- The letter's three demands, proved of the calls; specs/Demands.antt says what each means.
 use mathlib.Core.Path.{_≡_, refl, sym, ap, subst, _∙_}
 use mathlib.Core.Logic.{_≢_, _↔_}
-use mathlib.Core.List.{List, []}
-use Prim.Native.Nat.{ℕ, zero, suc, _*_, _≤_}
+use mathlib.Core.List.{List}
+use Prim.Native.Nat.{ℕ, _*_, _≤_}
 use native.Mathlib.Omega.{arith}
 use native.Mathlib.Decide.{ℕ-discrete}
 use lib.ListN.{length}
@@ -26,7 +26,7 @@ use Rattle.session.proofs.Theorems.{alike, alike-same}
 use Rattle.change.proofs.RefusalLaws.{change-number}
 use Rattle.take_over.proofs.TakeOverLaws.{restarting}
 use Rattle.answer.specs.declared.Answer.{Answer}
-use Rattle.answer.specs.declared.Answer.the-variants.{Caught, NoWay, Way, Refused}
+use Rattle.answer.specs.declared.Answer.the-variants.{NoWay, Way, Refused}
 use Rattle.search.specs.declared.Outcome.{Outcome}
 use Rattle.answer.specs.Answer.{toldBy, answerOf, cellsOf}
 use Rattle.search.specs.Promise.{outcome, written, Searched, Searches}

@@ -6,15 +6,14 @@ use mathlib.Core.List.{List, [], _∷_, append-nil}
 use Prim.Native.Nat.{ℕ, suc, _+_, _-_, _*_, _≤_, _<_}
 use native.Mathlib.Omega.{arith}
 use native.Mathlib.Decide.{ℕ-discrete}
-use lib.ListN.{getD, length, set, drop}
+use lib.ListN.{getD, length, set}
 use Rattle.method.specs.Numbers.{infinite}
-use Rattle.method.specs.Graph.{Graph, GraphLaws, Hunt}
+use Rattle.method.specs.Graph.{GraphLaws}
 use Rattle.method.specs.Tables as method
 use Rattle.method.specs.Loop.{Ran, run}
 use Rattle.method.specs.Session as calls
 use Rattle.method.proofs.Choices.{choose-yes, choose-no}
-use Rattle.method.proofs.Bounds.{During, most}
-use Rattle.method.proofs.Running.{run-sized}
+use Rattle.method.proofs.Bounds.{During}
 use Rattle.method.proofs.Facts.{rhs-le}
 use Rattle.method.proofs.Readying.{takenOver-sized, ready}
 use Rattle.method.proofs.Answers.{Stopped, Trail, trail, trail-way}
@@ -22,19 +21,17 @@ use Rattle.method.proofs.Searching.{huntTaken, boundTaken, runTaken, during-sta
 use Rattle.plan.proofs.GridLaws.{graph-laws}
 use Rattle.plan.proofs.MoveLaws.{area}
 use Rattle.tables.specs.declared.Session.{Session}
-use Rattle.tables.specs.Lent.{Tables, tables, cells, floor, graph, session, core, Fits}
+use Rattle.tables.specs.Lent.{Tables, tables, cells, floor, graph, session, core}
 use Rattle.tables.specs.Sound.{Sound}
 use Rattle.entries.specs.declared.Aim.{Aim}
 use Rattle.entries.specs.Aims as aims
-use Rattle.entries.specs.Aims.{aimOf, hunt, Aimed, Held, mostG, mostKm}
-use Rattle.entries.specs.Became.{Became}
+use Rattle.entries.specs.Aims.{Aimed, Held}
 use Rattle.steps.specs.Loop.{Started, Finished}
 use Rattle.take_over.specs.TakeOver.{AimOf, Holds}
-use Rattle.answer.specs.Way.{Leads, Leading, Shows}
+use Rattle.answer.specs.Way.{Leads}
 use Rattle.answer.proofs.WayLaws.{trail-leads}
 use Rattle.answer.specs.declared.Answer.{Answer}
-use Rattle.answer.specs.declared.Answer.the-variants.{Caught, NoWay, Way, Refused}
-use Rattle.search.specs.declared.Outcome.{Outcome}
+use Rattle.answer.specs.declared.Answer.the-variants.{Caught, Way}
 use Rattle.answer.specs.Answer.{answerOf, cellsOf, Answering, Answers, cut-off, none-there, way-shown}
 use Rattle.search.specs.Promise.{outcome, written, Searched}
 

@@ -1,7 +1,6 @@
 -- What place and open promise: the answer, the record and every table, for every input.
 use mathlib.Core.Path.{_≡_}
 use mathlib.Core.Logic.{_≢_, _↔_}
-use mathlib.Core.List.{List}
 use Prim.Native.Nat.{ℕ, _*_, _≤_, _<_}
 use lib.ListN.{getD}
 use Rattle.method.specs.Session.{fresh}

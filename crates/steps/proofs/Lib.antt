@@ -1,5 +1,2 @@
-pub mod AskLaws
-pub mod KeyLaws
 pub mod StepLaws
-pub mod ChoiceLaws
 pub mod LoopLaws

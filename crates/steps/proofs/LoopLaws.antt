@@ -2,7 +2,7 @@
 use mathlib.Core.Path.{_≡_, refl, sym, ap, subst, _∙_}
 use mathlib.Core.Bool.{Bool, true, false}
 use mathlib.Core.Logic.{_⊎_, inl, inr, ⊎-elim, _≢_}
-use mathlib.Core.Option.{Option, none, some}
+use mathlib.Core.Option.{some}
 use mathlib.Core.List.{List, []}
 use Prim.Native.Nat.{ℕ, suc, _+_, _-_, _*_, _≤_, _<_}
 use native.Mathlib.Omega.{arith}
@@ -11,18 +11,19 @@ use Rattle.method.specs.Numbers.{infinite, mostCost}
 use Rattle.method.specs.Graph.{Hunt}
 use Rattle.method.specs.Tables as method
 use Rattle.method.specs.Steps.{stepped}
-use Rattle.method.specs.Loop.{nextCell, isNone, Ran, after, run}
+use Rattle.method.specs.Loop.{nextCell, isNone, after, run}
 use Rattle.method.proofs.Bounds.{During, most, g-most, rhs-most}
 use Rattle.method.proofs.Running.{run-zero, run-none, run-some, pick-next, during-step, stepOn}
 use Rattle.method.proofs.Stepping.{stepped-sized}
 use Rattle.tables.specs.Lent.{Tables, tables, core}
 use Rattle.entries.specs.declared.Aim.{Aim}
-use Rattle.entries.specs.Aims.{area, hunt, mostG, mostKm, Aimed, Held, Small}
+use Rattle.entries.specs.Aims.{area, hunt, mostG, Aimed, Held, Small}
 use Rattle.entries.specs.Became.{Became}
 use Rattle.entries.proofs.SmallLaws.{small-by}
-use Rattle.steps.specs.Loop.{Goal, Choosing, Chosen, nextOf, Started, Finished}
-use Rattle.steps.specs.declared.Choice.{Choice}
-use Rattle.steps.specs.declared.Choice.the-variants.{Done, On}
+use Rattle.choices.specs.Next.{Choosing, Chosen, nextOf}
+use Rattle.steps.specs.Loop.{Started, Finished}
+use Rattle.choices.specs.declared.Choice.{Choice}
+use Rattle.choices.specs.declared.Choice.the-variants.{Done, On}
 use Rattle.steps.proofs.StepLaws.{became-held}
 
 -- what the rest of a run still does is what the whole run does

@@ -1,9 +1,9 @@
 -- The steps over the tables are the method's.
-use mathlib.Core.Path.{_≡_, refl, sym, ap, subst, _∙_}
+use mathlib.Core.Path.{_≡_, refl, sym, subst, _∙_}
 use mathlib.Core.Bool.{Bool, true, false}
-use mathlib.Core.Logic.{_⊎_, inl, inr, ⊎-elim, _≢_}
-use mathlib.Core.List.{List, _++_}
-use Prim.Native.Nat.{ℕ, _+_, _≤_, _<_, min}
+use mathlib.Core.Logic.{_⊎_, inr, ⊎-elim, _≢_}
+use mathlib.Core.List.{List}
+use Prim.Native.Nat.{ℕ, _+_, _≤_, _<_}
 use native.Mathlib.Numerals.{add-one}
 use native.Mathlib.Omega.{arith}
 use native.Mathlib.Decide.{ℕ-discrete, decLt}
@@ -17,9 +17,7 @@ use Rattle.method.specs.Tables as method
 use Rattle.method.specs.Steps.{relaxedAll, lowered, renewedAll, raised, stepped}
 use Rattle.method.proofs.Choices.{choose-yes, choose-no}
 use Rattle.method.proofs.Appending.{relaxedAll-append, renewedAll-append}
-use Rattle.method.proofs.Stepping.{relaxedAll-sized, renewedAll-sized}
 use Rattle.plan.specs.Directions.{rowStep, columnStep}
-use Rattle.plan.specs.Cells.{entered}
 use Rattle.plan.specs.Grid.{outBy, upTo}
 use Rattle.plan.specs.Reached.{At, Placed}
 use Rattle.plan.specs.declared.Spot.{Spot}
@@ -28,13 +26,13 @@ use Rattle.plan.proofs.MoveLaws.{placed, moved-at}
 use Rattle.tables.specs.Lent.{Tables, tables, core}
 use Rattle.entries.specs.declared.Aim.{Aim}
 use Rattle.entries.specs.Aims.{area, floor, hunt, mostG, mostRhs, Aimed, Held, Small}
-use Rattle.entries.specs.Became.{Became, Entering, Entered}
-use Rattle.entries.proofs.FoundLaws.{small-set, small-more, key-fits, entering}
-use Rattle.steps.specs.declared.Relaxing.{Relaxing}
-use Rattle.steps.specs.declared.Relaxing.the-variants.{Nothing, To}
-use Rattle.steps.specs.declared.Child.{Child}
-use Rattle.steps.specs.declared.Child.the-variants.{Not, Is}
-use Rattle.steps.specs.Moves.{Enters, RelaxesTo, Relaxes, RenewsAt, Renews, Keyed}
+use Rattle.entries.specs.Became.{Became}
+use Rattle.entries.proofs.FoundLaws.{small-set, small-more, key-fits}
+use Rattle.choices.specs.declared.Relaxing.{Relaxing}
+use Rattle.choices.specs.declared.Relaxing.the-variants.{Nothing, To}
+use Rattle.choices.specs.declared.Child.{Child}
+use Rattle.choices.specs.declared.Child.the-variants.{Not, Is}
+use Rattle.choices.specs.Moves.{Enters, RelaxesTo, Relaxes, RenewsAt, Renews, Keyed}
 
 -- ---- what holds of the tables after an inner function
 

@@ -1,3 +1,2 @@
--- What one move does in a step (Moves), and the loop of steps over the tables (Loop).
-pub mod Moves
+-- The loop of steps over the tables.
 pub mod Loop

@@ -1,10 +1,10 @@
 use native.Mathlib.Omega.{arith}
 use Rattle.plan.proofs.MoveLaws.{area}
 use Rattle.entries.proofs.AnewLaws.{said-shut, said-to}
-use Rattle.steps.proofs.AskLaws.{enters-by, relaxes-none, relaxes-hunter, relaxes-not, relaxes-to}
+use Rattle.choices.proofs.AskLaws.{enters-by, relaxes-none, relaxes-hunter, relaxes-not, relaxes-to}
 use borrow.Author.Needs.{needs}
-use Rattle.steps.proofs.relaxation.Statement.{statement}
-use Rattle.steps.proofs.relaxation.Tie as tie
+use Rattle.choices.proofs.relaxation.Statement.{statement}
+use Rattle.choices.proofs.relaxation.Tie as tie
 
 move-out-requires : tie.Need-move-out-requires
 move-out-requires c κs = search needs

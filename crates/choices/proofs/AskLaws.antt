@@ -16,12 +16,12 @@ use Rattle.plan.specs.Cells.{Stays, entered}
 use Rattle.plan.specs.Grid.{outBy}
 use Rattle.plan.proofs.DirectionLaws.{opposes}
 use Rattle.plan.proofs.CellLaws.{stays-back, back-again}
-use Rattle.plan.proofs.GridLaws.{Open, out-reach}
+use Rattle.plan.proofs.GridLaws.{out-reach}
 use Rattle.entries.specs.declared.Aim.{Aim}
-use Rattle.entries.specs.Aims.{area, floor, hunt, mostG, Aimed}
-use Rattle.steps.specs.Moves.{Enters, RelaxesTo, Relaxes, RenewsAt, Renews}
-use Rattle.steps.specs.declared.Relaxing.the-variants.{Nothing, To}
-use Rattle.steps.specs.declared.Child.the-variants.{Not, Is}
+use Rattle.entries.specs.Aims.{floor, hunt, Aimed}
+use Rattle.choices.specs.Moves.{Enters, Relaxes, Renews}
+use Rattle.choices.specs.declared.Relaxing.the-variants.{Nothing, To}
+use Rattle.choices.specs.declared.Child.the-variants.{Not, Is}
 
 -- a list of one move, or of none
 relaxed-none : (H : Hunt) (v : ℕ) (T : method.Tables) {l : List Move} → [] ≡ l → relaxedAll H v T l ≡ T

@@ -1,9 +1,9 @@
 use native.Mathlib.Omega.{arith}
 use Rattle.entries.proofs.AnewLaws.{said-shut, said-to}
-use Rattle.steps.proofs.AskLaws.{enters-by, renews-none, renews-hunter, renews-not, renews-at}
+use Rattle.choices.proofs.AskLaws.{enters-by, renews-none, renews-hunter, renews-not, renews-at}
 use borrow.Author.Needs.{needs}
-use Rattle.steps.proofs.child_by.Statement.{statement}
-use Rattle.steps.proofs.child_by.Tie as tie
+use Rattle.choices.proofs.child_by.Statement.{statement}
+use Rattle.choices.proofs.child_by.Tie as tie
 
 move-out-requires : tie.Need-move-out-requires
 move-out-requires c κs = search needs

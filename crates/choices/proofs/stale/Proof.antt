@@ -1,8 +1,8 @@
 use Rattle.plan.proofs.MoveLaws.{placed}
-use Rattle.steps.proofs.KeyLaws.{stale-is, key-room}
+use Rattle.choices.proofs.KeyLaws.{stale-is, key-room}
 use borrow.Author.Needs.{needs}
-use Rattle.steps.proofs.stale.Statement.{statement}
-use Rattle.steps.proofs.stale.Tie as tie
+use Rattle.choices.proofs.stale.Statement.{statement}
+use Rattle.choices.proofs.stale.Tie as tie
 
 mul-lesser : tie.Need-mul-lesser
 mul-lesser c = search needs

@@ -1,7 +1,7 @@
 use native.Mathlib.Omega.{arith}
-use Rattle.steps.proofs.KeyLaws.{key-first, key-second}
-use Rattle.steps.proofs.precedes.Statement.{statement}
-use Rattle.steps.proofs.precedes.Tie as tie
+use Rattle.choices.proofs.KeyLaws.{key-first, key-second}
+use Rattle.choices.proofs.precedes.Statement.{statement}
+use Rattle.choices.proofs.precedes.Tie as tie
 
 returns : tie.Need-returns
 returns c = key-first (c .before .args .a1) (c .before .args .a2) (c .before .args .b1) (c .before .args .b2) (omega arith) (omega arith) (c .if1 .taken)

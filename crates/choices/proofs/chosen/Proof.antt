@@ -1,9 +1,9 @@
 use native.Mathlib.Omega.{arith}
 use Rattle.plan.proofs.MoveLaws.{area}
-use Rattle.steps.proofs.ChoiceLaws.{chosen-empty, chosen-in, chosen-over, chosen-short, chosen-done}
+use Rattle.choices.proofs.ChoiceLaws.{chosen-empty, chosen-in, chosen-over, chosen-short, chosen-done}
 use borrow.Author.Needs.{needs}
-use Rattle.steps.proofs.chosen.Statement.{statement}
-use Rattle.steps.proofs.chosen.Tie as tie
+use Rattle.choices.proofs.chosen.Statement.{statement}
+use Rattle.choices.proofs.chosen.Tie as tie
 
 returns : tie.Need-returns
 returns c = chosen-empty (c .before .before .before .before .before .before .before .pre) (λ i. omega (arith, c .before .before .before .shared-slice-known4 .given i)) (c .if1 .taken)

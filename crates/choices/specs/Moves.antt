@@ -13,10 +13,10 @@ use Rattle.plan.specs.Reached.{At}
 use Rattle.plan.specs.declared.Spot.{Spot}
 use Rattle.entries.specs.declared.Aim.{Aim}
 use Rattle.entries.specs.Aims.{area, floor, hunt}
-use Rattle.steps.specs.declared.Relaxing.{Relaxing}
-use Rattle.steps.specs.declared.Relaxing.the-variants.{Nothing, To}
-use Rattle.steps.specs.declared.Child.{Child}
-use Rattle.steps.specs.declared.Child.the-variants.{Not, Is}
+use Rattle.choices.specs.declared.Relaxing.{Relaxing}
+use Rattle.choices.specs.declared.Relaxing.the-variants.{Nothing, To}
+use Rattle.choices.specs.declared.Child.{Child}
+use Rattle.choices.specs.declared.Child.the-variants.{Not, Is}
 
 -- The cell s that the move from u in direction d enters.
 pub record Enters (a : Aim) (u d s : ℕ) : Type 0 where

@@ -1,24 +1,23 @@
 -- The next cell as the code chooses it.
 use mathlib.Core.Path.{_≡_, refl, sym, ap, _∙_}
 use mathlib.Core.Bool.{Bool, true, false, true≢false}
-use mathlib.Core.Logic.{_⊎_, inl, inr, _≢_}
-use mathlib.Core.Option.{Option, none, some}
+use mathlib.Core.Logic.{inl, inr, _≢_}
+use mathlib.Core.Option.{some}
 use mathlib.Core.List.{List}
-use Prim.Native.Nat.{ℕ, _+_, _*_, _≤_, _<_, min}
+use Prim.Native.Nat.{ℕ, _+_, _≤_, _<_, min}
 use native.Mathlib.Omega.{arith}
 use native.Mathlib.Decide.{decLt}
 use lib.Dec.{ltb}
-use lib.ListN.{getD, length}
+use lib.ListN.{getD}
 use borrow.Author.Tests.{ltb-true, ltb-false, lt-ltb}
 use Rattle.method.specs.Numbers.{infinite}
 use Rattle.method.specs.Graph.{GraphLaws}
 use Rattle.method.specs.Tables as method
-use Rattle.method.specs.Loop.{nextCell}
 use Rattle.method.specs.Course.{Before, LeastCell, Continues}
 use Rattle.method.proofs.Entries.{first-finite, first-infinite}
 use Rattle.method.proofs.Taking.{least-one, least-cell, next-some, next-none}
 use Rattle.queue.specs.Order.{before, tied}
-use Rattle.queue.specs.Queue.{absent, members, Heap, Least, LeastOf}
+use Rattle.queue.specs.Queue.{LeastOf}
 use Rattle.queue.proofs.MemberLaws.{member-place}
 use Rattle.queue.proofs.OrderLaws.{less-eq, less-ne}
 use Rattle.queue.proofs.QueueLaws.{least-of, least-place}
@@ -29,8 +28,8 @@ use Rattle.tables.specs.Lent.{tables, core}
 use Rattle.tables.proofs.SoundLaws.{Words}
 use Rattle.entries.specs.declared.Aim.{Aim}
 use Rattle.entries.specs.Aims.{area, floor, hunt}
-use Rattle.steps.specs.Loop.{Goal, Choosing, nextOf, Chosen}
-use Rattle.steps.specs.declared.Choice.the-variants.{Done, On}
+use Rattle.choices.specs.Next.{Goal, Choosing, Chosen}
+use Rattle.choices.specs.declared.Choice.the-variants.{Done, On}
 
 -- ---- the target's calculated key
 

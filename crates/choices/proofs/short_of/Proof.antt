@@ -1,8 +1,8 @@
 use native.Mathlib.Omega.{arith}
-use Rattle.steps.proofs.ChoiceLaws.{goal-infinite, goal-finite}
+use Rattle.choices.proofs.ChoiceLaws.{goal-infinite, goal-finite}
 use borrow.Author.Needs.{needs}
-use Rattle.steps.proofs.short_of.Statement.{statement}
-use Rattle.steps.proofs.short_of.Tie as tie
+use Rattle.choices.proofs.short_of.Statement.{statement}
+use Rattle.choices.proofs.short_of.Tie as tie
 
 precedes-requires : tie.Need-precedes-requires
 precedes-requires c κs = search needs

@@ -1,0 +1,3 @@
+pub mod AskLaws
+pub mod KeyLaws
+pub mod ChoiceLaws
