@@ -57,6 +57,26 @@ pub struct Lent<'a> {
     pub list: &'a mut [u16],
 }
 
+/// Lends the tables of a struct whose fields are named as those of `Lent`, one by one, so that the plan and the way list,
+/// if they stand in the same struct, can be lent beside them: `rongdhesi::search(session, &t.plan, lent!(t), &mut t.way)`.
+/// This file has to be the module `rongdhesi` at the root of its crate.
+#[allow(unused_macros)]
+macro_rules! lent {
+    ($tables:expr) => {
+        $crate::rongdhesi::Lent {
+            g: &mut $tables.g,
+            rhs: &mut $tables.rhs,
+            parent: &mut $tables.parent,
+            k1: &mut $tables.k1,
+            k2: &mut $tables.k2,
+            place: &mut $tables.place,
+            list: &mut $tables.list,
+        }
+    };
+}
+#[allow(unused_imports)]
+pub(crate) use lent;
+
 mod c {
     use super::{Lengths, Reply, Session};
 

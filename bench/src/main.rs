@@ -14,6 +14,7 @@ use std::time::Instant;
 
 use a_star::AStar;
 use plain::Answer;
+use rongdhesi::lent;
 use scenes::{Kind, Scene};
 
 /// The library's side of a scene.
@@ -27,21 +28,6 @@ struct Library {
     k2: Vec<u32>,
     place: Vec<u16>,
     list: Vec<u16>,
-}
-
-/// The tables but the plan, lent one by one so that the plan can be lent beside them.
-macro_rules! lent {
-    ($tables:expr) => {
-        rongdhesi::Lent {
-            g: &mut $tables.g,
-            rhs: &mut $tables.rhs,
-            parent: &mut $tables.parent,
-            k1: &mut $tables.k1,
-            k2: &mut $tables.k2,
-            place: &mut $tables.place,
-            list: &mut $tables.list,
-        }
-    };
 }
 
 impl Library {

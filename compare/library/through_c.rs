@@ -13,6 +13,7 @@ use compare::chance::Chance;
 use compare::digest::numbers_of;
 use compare::made::{draw_plan, sound_tables};
 use compare::model::{self, cells_of, neighbour, Answer, Session, Tables, ABSENT, INFINITE};
+use rongdhesi::lent;
 
 /// A record, its tables and a way list: one player's side of a session.
 #[derive(Clone, Debug, PartialEq)]
@@ -60,21 +61,6 @@ fn crossed_back(s: &rongdhesi::Session) -> Session {
         count: s.count,
         searches: s.searches,
     }
-}
-
-/// The tables but the plan and the way list, lent one by one so that both can be lent beside them.
-macro_rules! lent {
-    ($tables:expr) => {
-        rongdhesi::Lent {
-            g: &mut $tables.g,
-            rhs: &mut $tables.rhs,
-            parent: &mut $tables.parent,
-            k1: &mut $tables.k1,
-            k2: &mut $tables.k2,
-            place: &mut $tables.place,
-            list: &mut $tables.list,
-        }
-    };
 }
 
 impl Side {

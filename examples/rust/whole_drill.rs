@@ -4,7 +4,7 @@
 #[allow(dead_code)]
 mod rongdhesi;
 
-use rongdhesi::{Lent, Reply, Session, CAUGHT, NONE, REFUSED, SHUT, WAY};
+use rongdhesi::{lent, Reply, Session, CAUGHT, NONE, REFUSED, SHUT, WAY};
 
 const WIDTH: u64 = 3;
 const HEIGHT: u64 = 1;
@@ -22,21 +22,6 @@ struct Drill {
     place: [u16; CELLS],
     list: [u16; CELLS],
     way: [u16; CELLS],
-}
-
-/// The tables of a drill but the plan and the way list, lent one by one so that both can be lent beside them.
-macro_rules! lent {
-    ($drill:expr) => {
-        Lent {
-            g: &mut $drill.g,
-            rhs: &mut $drill.rhs,
-            parent: &mut $drill.parent,
-            k1: &mut $drill.k1,
-            k2: &mut $drill.k2,
-            place: &mut $drill.place,
-            list: &mut $drill.list,
-        }
-    };
 }
 
 impl Drill {
