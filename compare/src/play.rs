@@ -1,7 +1,6 @@
-//! Plays the sessions of PROTOCOL.md and checks every answer while it plays.
+//! Plays drawn sessions and checks every answer while it plays.
 
 use crate::chance::Chance;
-use crate::digest::{numbers_of, Digest};
 use crate::dijkstra::distances;
 use crate::model::{
     change, is_sound, neighbour, open, place_hunter, place_target, search_with_log, Answer, Session,
@@ -82,16 +81,10 @@ pub struct Shown {
     pub width: u64,
     pub height: u64,
     pub calls: u64,
-    pub steps: u64,
-    pub digest: Digest,
     pub searches: u64,
     pub renewals: u64,
     pub fresh: u64,
-    pub ways: u64,
-    pub nones: u64,
-    pub caught: u64,
-    pub refused: [u64; 10],
-    /// The greatest number of steps of one search, with the number of cells there.
+    /// The greatest number of steps of one search.
     pub worst: u64,
 }
 
@@ -104,8 +97,6 @@ struct Player {
     range: u64,
     log: Vec<(Step, u16)>,
     shown: Shown,
-    /// If this is set, a line is printed after each call.
-    trace: Option<u64>,
     last: Answer,
 }
 
@@ -114,28 +105,12 @@ impl Player {
         self.tables.g.len() as u64
     }
 
-    /// Notes one call: counts it, checks soundness after an accepted one, and folds the digest.
+    /// Notes one call: counts it, and checks soundness after an accepted one.
     fn note(&mut self, answer: Answer) {
         self.last = answer;
         self.shown.calls += 1;
-        match answer {
-            Answer::Refused(number) => self.shown.refused[number as usize] += 1,
-            Answer::Way { .. } => self.shown.ways += 1,
-            Answer::None { .. } => self.shown.nones += 1,
-            Answer::Caught { .. } => self.shown.caught += 1,
-            Answer::Accepted => {}
-        }
         if !matches!(answer, Answer::Refused(_)) {
             assert!(is_sound(&self.session, &self.tables), "tables not sound after an accepted call");
-        }
-        self.shown.digest.fold_call(&answer, &self.session, &self.tables, &self.way);
-        if let Some(index) = self.trace {
-            let [kind, number, cost, steps, length] = numbers_of(&answer);
-            println!(
-                "{} {} {} {} {} {} {} {} {}",
-                index, self.shown.calls, kind, number, cost, steps, length,
-                self.shown.digest.a, self.shown.digest.b
-            );
         }
     }
 
@@ -178,9 +153,7 @@ impl Player {
         let (answer, session) =
             checked_search(&self.session, &mut self.tables, &mut self.way, &mut self.log);
         self.session = session;
-        let steps = self.log.len() as u64;
-        self.shown.steps += steps;
-        self.shown.worst = self.shown.worst.max(steps);
+        self.shown.worst = self.shown.worst.max(self.log.len() as u64);
         if let Answer::Way { .. } | Answer::None { .. } = answer {
             self.shown.searches += 1;
             if before.searches == 1_000 {
@@ -381,7 +354,7 @@ impl Player {
 }
 
 /// Plays the session of an index in the run of a seed.
-pub fn play(seed: u64, index: u64, trace: bool) -> Shown {
+pub fn play(seed: u64, index: u64) -> Shown {
     let mut chance = Chance::start(seed, index);
     let kind = index % 12;
     let (width, height) = match kind {
@@ -427,22 +400,7 @@ pub fn play(seed: u64, index: u64, trace: bool) -> Shown {
         chance,
         range,
         log: Vec::new(),
-        shown: Shown {
-            width,
-            height,
-            calls: 0,
-            steps: 0,
-            digest: Digest::new(),
-            searches: 0,
-            renewals: 0,
-            fresh: 0,
-            ways: 0,
-            nones: 0,
-            caught: 0,
-            refused: [0; 10],
-            worst: 0,
-        },
-        trace: if trace { Some(index) } else { None },
+        shown: Shown { width, height, calls: 0, searches: 0, renewals: 0, fresh: 0, worst: 0 },
         last: Answer::Accepted,
     };
 

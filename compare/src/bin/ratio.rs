@@ -23,7 +23,7 @@ fn main() {
     let (mut played, mut searches) = (0u64, 0u64);
     let half = Instant::now() + Duration::from_secs(seconds / 2);
     while Instant::now() < half {
-        let shown = play(seed, played, false);
+        let shown = play(seed, played);
         played += 1;
         searches += shown.searches;
         let worst = sessions.entry(shown.width * shown.height).or_insert(0);

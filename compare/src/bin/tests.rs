@@ -674,7 +674,7 @@ fn renewal(count: &mut Count) {
 fn slips(count: &mut Count) {
     // A whole seeded play compares every answer with Dijkstra's, which shows each of them.
     for index in 0..36 {
-        let shown = play(2_026, index, false);
+        let shown = play(2_026, index);
         count.yes("played", shown.calls > 0);
         if index % 12 == 6 {
             count.yes("long sessions pass 1,000 twice", shown.renewals >= 2 && shown.fresh == 0);
