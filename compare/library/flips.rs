@@ -1,10 +1,8 @@
 //! Tables and records with one byte flipped.
 
 use crate::pair::{Call, Counts, Pair, Side};
-use crate::rounds::{draw_cost, opened, play_round};
+use crate::rounds::{draw_base, draw_cost};
 use compare::chance::Chance;
-use compare::made::sound_tables;
-use compare::model::ABSENT;
 
 /// Where each field of the record begins among its bytes, and its length.
 pub const RECORD: [(usize, usize); 9] =
@@ -56,17 +54,7 @@ pub fn play_flipped(seed: u64, percent: u64, counts: &mut Counts) {
         let mut chance = Chance::start(seed, 400_000 + index);
         let full = index % 50 == 49;
         let (width, height) = if full { (64, 64) } else { (1 + chance.draw(6), 1 + chance.draw(6)) };
-        let base = if index % 2 == 0 {
-            let (session, tables) = sound_tables(&mut chance, width, height);
-            Side { session, tables, way: vec![ABSENT; (width * height) as usize] }
-        } else {
-            let mut pair = opened(&mut chance, counts, "flipped", width, height, 9);
-            for _ in 0..40 {
-                play_round(&mut chance, &mut pair, 9);
-            }
-            pair.level();
-            pair.library
-        };
+        let base = draw_base(&mut chance, counts, "flipped", width, height, index % 2 == 0);
         for table in 0..9 {
             for byte in (0..bytes_of(&base, table)).step_by(if full && table < 8 { 199 } else { 1 }) {
                 for bits in [1, 128, 255] {

@@ -3,6 +3,8 @@
 use crate::rongdhesi::{self, lent};
 use compare::digest::numbers_of;
 use compare::model::{self, Answer, Session, Tables, ABSENT};
+use compare::rules::Rule;
+use std::collections::BTreeMap;
 
 /// A record, its tables and a way list: one player's side of a session.
 #[derive(Clone, Debug, PartialEq)]
@@ -107,6 +109,8 @@ pub struct Counts {
     pub renewals: u64,
     pub fresh: u64,
     pub highest: u32,
+    /// How often each rule of soundness was the only one broken, where tables were made for that.
+    pub alone: BTreeMap<Rule, u64>,
 }
 
 /// The two sides of a session, and how it was come by.

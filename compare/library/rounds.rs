@@ -3,8 +3,8 @@
 use crate::flips::{flip, RECORD};
 use crate::pair::{Call, Counts, Pair, Side};
 use compare::chance::Chance;
-use compare::made::draw_plan;
-use compare::model::{neighbour, Answer, Session, INFINITE};
+use compare::made::{draw_plan, sound_tables};
+use compare::model::{neighbour, Answer, Session, ABSENT, INFINITE};
 
 /// Draws a number that is far too great.
 fn draw_great(chance: &mut Chance) -> u64 {
@@ -88,11 +88,8 @@ fn play_spoiled(chance: &mut Chance, pair: &mut Pair, range: u64) {
     }
 }
 
-/// Plays a call with one table, or the way list, of a wrong length, and puts it back.
-fn play_cut(chance: &mut Chance, pair: &mut Pair) {
-    let before = (pair.model.clone(), pair.library.clone());
-    let which = chance.draw(9);
-    let longer = chance.draw(2) == 0;
+/// Makes one of the eight tables, or the way list, one entry longer or shorter.
+pub fn cut(side: &mut Side, which: u64, longer: bool) {
     fn cut<T: Copy + Default>(table: &mut Vec<T>, longer: bool) {
         if longer {
             table.push(T::default());
@@ -100,7 +97,7 @@ fn play_cut(chance: &mut Chance, pair: &mut Pair) {
             table.pop();
         }
     }
-    pair.both(|side| match which {
+    match which {
         0 => cut(&mut side.tables.plan, longer),
         1 => cut(&mut side.tables.g, longer),
         2 => cut(&mut side.tables.rhs, longer),
@@ -110,7 +107,15 @@ fn play_cut(chance: &mut Chance, pair: &mut Pair) {
         6 => cut(&mut side.tables.place, longer),
         7 => cut(&mut side.tables.list, longer),
         _ => cut(&mut side.way, longer),
-    });
+    }
+}
+
+/// Plays a call with one table, or the way list, of a wrong length, and puts it back.
+fn play_cut(chance: &mut Chance, pair: &mut Pair) {
+    let before = (pair.model.clone(), pair.library.clone());
+    let which = chance.draw(9);
+    let longer = chance.draw(2) == 0;
+    pair.both(|side| cut(side, which, longer));
     let Session { width, height, .. } = pair.model.session;
     let call = match chance.draw(3) {
         0 => Call::Change { cell: 0, direction: 1, cost: 1 },
@@ -181,4 +186,18 @@ pub fn opened<'a>(chance: &mut Chance, counts: &'a mut Counts, part: &'static st
     let (hunter, target) = (chance.draw(cells), chance.draw(cells));
     pair.play(Call::Open { width, height, hunter, target });
     pair
+}
+
+/// Draws sound tables: made ones, which no history led to, or those that a played session left.
+pub fn draw_base(chance: &mut Chance, counts: &mut Counts, part: &'static str, width: u64, height: u64, made: bool) -> Side {
+    if made {
+        let (session, tables) = sound_tables(chance, width, height);
+        return Side { session, tables, way: vec![ABSENT; (width * height) as usize] };
+    }
+    let mut pair = opened(chance, counts, part, width, height, 9);
+    for _ in 0..40 {
+        play_round(chance, &mut pair, 9);
+    }
+    pair.level();
+    pair.library
 }

@@ -5,13 +5,17 @@
 //! `through_c [PERCENT [SEED]]` plays so much of what the test command plays (100 if not given), all drawn from SEED.
 //! It prints what it played; at the first difference it prints the call with its tables and fails.
 
+mod asked;
+mod breaks;
 mod flips;
 mod pair;
+mod queue_breaks;
 #[path = "../../include/rongdhesi.rs"]
 #[allow(dead_code)]
 mod rongdhesi;
 mod rounds;
 
+use breaks::play_broken;
 use compare::chance::Chance;
 use compare::made::{draw_plan, sound_tables};
 use compare::model::{cells_of, Answer, ABSENT, INFINITE};
@@ -134,12 +138,13 @@ fn main() {
     let percent = *words.first().unwrap_or(&100);
     let seed = *words.get(1).unwrap_or(&1);
     println!("lengths asked for: {} sizes", ask_lengths());
-    let parts: [(&str, fn(u64, u64, &mut Counts)); 5] = [
+    let parts: [(&str, fn(u64, u64, &mut Counts)); 6] = [
         ("every width and height, 1 to 64", play_sizes),
         ("small plans", play_small),
         ("more than 1,000 searches in a row", play_long),
         ("sound tables that no history led to", play_made),
         ("each byte of each table and of the record flipped", play_flipped),
+        ("each rule of soundness broken by itself, and kept on the edge", play_broken),
     ];
     let mut all = 0;
     for (name, play) in parts {
@@ -149,6 +154,9 @@ fn main() {
             "{}: {} calls; done, ways, none, caught, refused {:?}; refused by number {:?}; renewals {}, other fresh starts {}, highest search number {}",
             name, counts.calls, counts.kinds, counts.refused, counts.renewals, counts.fresh, counts.highest
         );
+        if !counts.alone.is_empty() {
+            println!("    broken alone: {:?}", counts.alone);
+        }
         all += counts.calls;
     }
     println!("{} calls through the C interface, each as the model's", all);

@@ -42,6 +42,25 @@ pub enum Rule {
     BoundHunter,
 }
 
+/// The rules that can be broken one at a time: all but the shape, without which there is nothing to ask of the others.
+pub const SINGLE: [Rule; 15] = [
+    Rule::Plan,
+    Rule::Cells,
+    Rule::HunterRhs,
+    Rule::HunterParent,
+    Rule::Rhs,
+    Rule::Parent,
+    Rule::Members,
+    Rule::Agree,
+    Rule::Heap,
+    Rule::Keys,
+    Rule::Absent,
+    Rule::Searches,
+    Rule::Km,
+    Rule::BoundG,
+    Rule::BoundHunter,
+];
+
 /// A sum of g and a cost byte in wide numbers, with the greatest number for "infinite".
 fn wide_sum(g: u32, byte: u8) -> u128 {
     if g == INFINITE || byte == SHUT {
