@@ -159,7 +159,7 @@ pub fn sound_tables(chance: &mut Chance, width: u64, height: u64) -> (Session, T
 }
 
 /// Fills list, places and count with the cells of unlike g and rhs, put in in a random order.
-pub fn queue_in_random_order(chance: &mut Chance, session: &mut Session, tables: &mut Tables) {
+fn queue_in_random_order(chance: &mut Chance, session: &mut Session, tables: &mut Tables) {
     let cells = tables.g.len();
     let mut members: Vec<u16> =
         (0..cells).filter(|&c| tables.g[c] != tables.rhs[c]).map(|c| c as u16).collect();
