@@ -225,8 +225,8 @@ fn measure_check(scene: &Scene) {
     assert_eq!(rust.change_move::<true>(cells, 0, 1), Answer::Refused(3));
     let ours = least_time(|| library.change_move(cells, 0, 1));
     let theirs = least_time(|| rust.change_move::<true>(cells, 0, 1));
-    let each = least_time(|| rust.read_each());
-    let once = least_time(|| rust.read_once());
+    let each = least_time(|| rust.read_all::<true>());
+    let once = least_time(|| rust.read_all::<false>());
     println!(
         "| {} by {} | {:.2} | {:.2} | {:.2} | {:.2} | {:.2} | {:.2} | {:.2} |",
         scene.side,

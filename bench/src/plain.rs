@@ -605,35 +605,21 @@ impl Session {
         Answer::Way { cost, steps, cells: self.write_way(way) }
     }
 
-    /// Reads every entry of every table once, in order, as 64-bit sums.
+    /// Reads every entry of every table once, in order, as 64-bit sums. `EACH` says whether one entry is read at a time, as a
+    /// program reads that looks at each; else the compiler may merge reads.
     #[inline(never)]
-    pub fn read_once(&self) -> u64 {
-        fn sum<T: Copy + Into<u64>>(table: &[T]) -> u64 {
-            table.iter().map(|&entry| entry.into()).sum()
+    pub fn read_all<const EACH: bool>(&self) -> u64 {
+        fn sum<const EACH: bool, T: Copy + Into<u64>>(table: &[T]) -> u64 {
+            let read = |entry: &T| if EACH { unsafe { std::ptr::read_volatile(entry) } } else { *entry };
+            table.iter().map(|entry| read(entry).into()).sum()
         }
-        sum(&self.plan)
-            + sum(&self.g)
-            + sum(&self.rhs)
-            + sum(&self.parent)
-            + sum(&self.k1)
-            + sum(&self.k2)
-            + sum(&self.place)
-            + sum(&self.list)
-    }
-
-    /// The same, one entry at a time, as a program reads that looks at each: no read is merged with another.
-    #[inline(never)]
-    pub fn read_each(&self) -> u64 {
-        fn sum<T: Copy + Into<u64>>(table: &[T]) -> u64 {
-            table.iter().map(|entry| unsafe { std::ptr::read_volatile(entry) }.into()).sum()
-        }
-        sum(&self.plan)
-            + sum(&self.g)
-            + sum(&self.rhs)
-            + sum(&self.parent)
-            + sum(&self.k1)
-            + sum(&self.k2)
-            + sum(&self.place)
-            + sum(&self.list)
+        sum::<EACH, _>(&self.plan)
+            + sum::<EACH, _>(&self.g)
+            + sum::<EACH, _>(&self.rhs)
+            + sum::<EACH, _>(&self.parent)
+            + sum::<EACH, _>(&self.k1)
+            + sum::<EACH, _>(&self.k2)
+            + sum::<EACH, _>(&self.place)
+            + sum::<EACH, _>(&self.list)
     }
 }
