@@ -159,8 +159,16 @@ fn player(scene: &Scene, which: usize) -> Box<dyn Player> {
     }
 }
 
-/// Plays a scene by all in turn, five times, and prints a line.
-fn measure(scene: &Scene) {
+/// What a scene took, player by player: the steps of a search, and the times of a search and of a change, if there were
+/// changes, in microseconds.
+struct Measured {
+    steps: [f64; 4],
+    search: [f64; 4],
+    change: Option<[f64; 4]>,
+}
+
+/// Plays a scene by all in turn, five times.
+fn measure(scene: &Scene) -> Measured {
     let mut runs: [Vec<Played>; 4] = Default::default();
     for _ in 0..5 {
         for (which, runs) in runs.iter_mut().enumerate() {
@@ -170,32 +178,76 @@ fn measure(scene: &Scene) {
     let first = runs.each_ref().map(|runs| &runs[0]);
     assert!(first.iter().all(|played| played.costs == first[0].costs), "the answers differ");
     assert!(first[0].steps == first[1].steps && first[1].steps == first[2].steps, "the steps differ");
-    let steps = first.map(|played| played.steps);
-    let searches = runs.each_ref().map(|runs| least(runs, |played| &played.searches));
-    let changes = runs.each_ref().map(|runs| least(runs, |played| &played.changes));
     let turns = scene.turns.len() as f64;
     let calls: usize = scene.turns.iter().map(|turn| turn.changes.len()).sum();
-    let search = searches.map(|time| time / turns / 1e3);
-    let change = changes.map(|time| time / calls.max(1) as f64 / 1e3);
+    let searches = runs.each_ref().map(|runs| least(runs, |played| &played.searches));
+    let changes = runs.each_ref().map(|runs| least(runs, |played| &played.changes));
+    Measured {
+        steps: first.map(|played| played.steps as f64 / turns),
+        search: searches.map(|time| time / turns / 1e3),
+        change: (calls > 0).then(|| changes.map(|time| time / calls as f64 / 1e3)),
+    }
+}
+
+/// How long the library takes for what the Rust version with the same check takes 1 for.
+fn to_rust_checked(times: [f64; 4]) -> f64 {
+    times[0] / times[1]
+}
+
+/// Prints a scene's line.
+fn print_line(scene: &Scene, measured: &Measured) {
+    let Measured { steps, search, change } = measured;
     print!(
         "| {0} by {0} | {1} | {2} | {3:.1} | {4:.1} | {5:.2} | {6:.2} | {7:.2} | {8:.2} | {9:.2} | {10:.2} |",
         scene.side,
         scene.kind.name(),
         scene.doors,
-        steps[0] as f64 / turns,
-        steps[3] as f64 / turns,
+        steps[0],
+        steps[3],
         search[0],
         search[1],
         search[2],
         search[3],
-        search[0] / search[1],
+        to_rust_checked(*search),
         search[0] / search[3]
     );
-    if calls == 0 {
-        println!(" - | - | - | - |");
-    } else {
-        println!(" {:.2} | {:.2} | {:.2} | {:.2} |", change[0], change[1], change[2], change[0] / change[1]);
+    match change {
+        None => println!(" - | - | - | - |"),
+        Some(change) => {
+            println!(" {:.2} | {:.2} | {:.2} | {:.2} |", change[0], change[1], change[2], to_rust_checked(*change))
+        }
     }
+}
+
+/// The geometric mean of ratios, with the least and the greatest.
+fn mean_of(ratios: &[f64]) -> String {
+    let mean = (ratios.iter().map(|ratio| ratio.ln()).sum::<f64>() / ratios.len() as f64).exp();
+    let least = ratios.iter().copied().fold(f64::INFINITY, f64::min);
+    let greatest = ratios.iter().copied().fold(0.0, f64::max);
+    format!("{:.2} ({:.2} to {:.2} in {} scenes)", mean, least, greatest, ratios.len())
+}
+
+/// Measures all scenes and prints their table.
+fn measure_scenes() {
+    println!("| Plan | Kind | Doors a turn | Steps a search | A* expansions | Search: library | Rust, checked | Rust, unchecked | A* | library / Rust checked | library / A* | Change: library | Rust, checked | Rust, unchecked | library / Rust checked |");
+    println!("|---|---|---|---|---|---|---|---|---|---|---|---|---|---|---|");
+    let (mut searches, mut changes) = (Vec::new(), Vec::new());
+    let mut seed = 0;
+    for side in [64, 32, 16] {
+        for kind in [Kind::Shut, Kind::Maze, Kind::Rooms] {
+            for doors in [0, 1, 10, 100] {
+                seed += 1;
+                let turns = if doors == 100 { 40 } else { 200 };
+                let scene = scenes::draw(side, kind, doors, turns, seed);
+                let measured = measure(&scene);
+                print_line(&scene, &measured);
+                searches.push(to_rust_checked(measured.search));
+                changes.extend(measured.change.map(to_rust_checked));
+            }
+        }
+    }
+    println!();
+    println!("library / Rust checked, geometric mean: search {}, change {}.", mean_of(&searches), mean_of(&changes));
 }
 
 /// The least time of one run out of many, in microseconds.
@@ -228,9 +280,9 @@ fn measure_check(scene: &Scene) {
     let each = least_time(|| rust.read_all::<true>());
     let once = least_time(|| rust.read_all::<false>());
     println!(
-        "| {} by {} | {:.2} | {:.2} | {:.2} | {:.2} | {:.2} | {:.2} | {:.2} |",
+        "| {0} by {0} | {1} | {2:.2} | {3:.2} | {4:.2} | {5:.2} | {6:.2} | {7:.2} | {8:.2} |",
         scene.side,
-        scene.side,
+        scene.kind.name(),
         ours,
         theirs,
         each,
@@ -241,27 +293,21 @@ fn measure_check(scene: &Scene) {
     );
 }
 
+/// Measures the check on plans of each size, on the largest for each kind, and prints the table.
+fn measure_checks() {
+    println!("| Plan | Kind | library | Rust | every entry read, one at a time | every entry read, as the compiler likes | library / Rust | library / one at a time | library / as it likes |");
+    println!("|---|---|---|---|---|---|---|---|---|");
+    for (side, kind) in [(64, Kind::Shut), (64, Kind::Maze), (64, Kind::Rooms), (32, Kind::Shut), (16, Kind::Shut)] {
+        measure_check(&scenes::draw(side, kind, 0, 20, 99));
+    }
+}
+
 fn main() {
     println!("Times of a call in microseconds, each at its least of five runs, in which the four take turns.");
     println!();
-    println!("| Plan | Kind | Doors a turn | Steps a search | A* expansions | Search: library | Rust, checked | Rust, unchecked | A* | library / Rust checked | library / A* | Change: library | Rust, checked | Rust, unchecked | library / Rust checked |");
-    println!("|---|---|---|---|---|---|---|---|---|---|---|---|---|---|---|");
-    let mut seed = 0;
-    for side in [64, 32, 16] {
-        for kind in [Kind::Shut, Kind::Maze, Kind::Rooms] {
-            for doors in [0, 1, 10, 100] {
-                seed += 1;
-                let turns = if doors == 100 { 40 } else { 200 };
-                measure(&scenes::draw(side, kind, doors, turns, seed));
-            }
-        }
-    }
+    measure_scenes();
     println!();
     println!("The check alone, the least of 2,000 runs:");
     println!();
-    println!("| Plan | library | Rust | every entry read, one at a time | every entry read, as the compiler likes | library / Rust | library / one at a time | library / as it likes |");
-    println!("|---|---|---|---|---|---|---|---|");
-    for side in [64, 32, 16] {
-        measure_check(&scenes::draw(side, Kind::Shut, 0, 20, 99));
-    }
+    measure_checks();
 }
