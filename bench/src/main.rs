@@ -122,6 +122,7 @@ struct Played {
     costs: Vec<Option<u32>>,
 }
 
+/// Plays a scene once.
 fn play(scene: &Scene, player: &mut dyn Player) -> Played {
     let mut way = vec![0; scene.side * scene.side];
     let mut played = Played { changes: Vec::new(), searches: Vec::new(), steps: 0, costs: Vec::new() };
@@ -148,6 +149,7 @@ fn least(runs: &[Played], times: fn(&Played) -> &[u64]) -> f64 {
     all.map(|at| runs.iter().map(|run| times(run)[at]).min().expect("a run")).sum::<u64>() as f64
 }
 
+/// One of the four, before the first turn: the library, Rust checked, Rust unchecked, A*.
 fn player(scene: &Scene, which: usize) -> Box<dyn Player> {
     let (side, first) = (scene.side, &scene.turns[0]);
     let plain = || plain::Session::open(side, side, first.hunter, first.target, scene.plan.clone());

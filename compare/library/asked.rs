@@ -46,11 +46,13 @@ pub struct Asked<'a> {
 }
 
 impl<'a> Asked<'a> {
+    /// Takes sound tables as the base.
     pub fn new(mut base: Side, counts: &'a mut Counts, part: &'static str) -> Asked<'a> {
         base.way.clear();
         Asked { base, counts, part }
     }
 
+    /// The base's N.
     pub fn cells(&self) -> u64 {
         self.base.tables.g.len() as u64
     }

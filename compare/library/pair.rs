@@ -122,10 +122,12 @@ pub struct Pair<'a> {
 }
 
 impl<'a> Pair<'a> {
+    /// Gives both sides the same to begin with.
     pub fn new(side: Side, counts: &'a mut Counts, part: &'static str) -> Pair<'a> {
         Pair { model: side.clone(), library: side, counts, part }
     }
 
+    /// N, by the length of the tables.
     pub fn cells(&self) -> u64 {
         self.model.tables.g.len() as u64
     }
@@ -147,6 +149,7 @@ impl<'a> Pair<'a> {
         answer
     }
 
+    /// Counts a call by its answer, and a search that started fresh.
     fn count(&mut self, answer: &Answer, before: &Session, call: Call) {
         let counts = &mut *self.counts;
         counts.calls += 1;

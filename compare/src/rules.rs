@@ -1,5 +1,5 @@
 //! The soundness paragraph once more, clause by clause and without an early end.
-//! It answers which rules are broken, and it serves only to check `is_sound` against.
+//! It answers which rules are broken, and it serves only to check `is_sound`, and tables made to break a rule, against.
 
 use crate::model::{
     cells_of, estimate, lengths_fit, neighbour, opposite, Session, Tables, ABSENT, INFINITE, SHUT,
