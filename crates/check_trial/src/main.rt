@@ -91,7 +91,7 @@ fn number_of(a: session::Answer) -> usize {
 }
 
 // Changes a move.
-fn change(b: Base, cell: usize, direction: usize, cost: u8) -> Answered {
+fn change_asked(b: Base, cell: usize, direction: usize, cost: u8) -> Answered {
     let mut plan = b.plan;
     let g = b.g;
     let mut rhs = b.rhs;
@@ -135,7 +135,7 @@ fn change(b: Base, cell: usize, direction: usize, cost: u8) -> Answered {
 
 // Asks the check: a change of a cell out of the plan is answered by 3 exactly if the tables are sound.
 fn ask(b: Base) -> usize {
-    let c = change(b, 6, 0, 1);
+    let c = change_asked(b, 6, 0, 1);
     c.number
 }
 
@@ -376,7 +376,7 @@ fn searched(b: Base) -> Base {
 
 // The base after a search between other cells, and a change that makes a move on the way dear.
 fn changed(b: Base) -> Base {
-    let c = change(searched(with_session(b, moved(b.session))), 0, 2, 200);
+    let c = change_asked(searched(with_session(b, moved(b.session))), 0, 2, 200);
     c.base
 }
 

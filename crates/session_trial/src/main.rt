@@ -400,7 +400,7 @@ fn drawn_change(l: Luck, cells: usize, fit: bool) -> Wish {
 }
 
 // One drawn change.
-fn change(p: Player, fit: bool) -> Player {
+fn change_drawn(p: Player, fit: bool) -> Player {
     let c = drawn_change(p.luck, p.cells, fit);
     let n = p.cells % 321;
     let m = n * 4;
@@ -539,7 +539,7 @@ fn act(p: Player) -> Player {
     let w = below(l, 8);
     let q = with_luck(p, l);
     if w < 4 {
-        return change(q, w == 3);
+        return change_drawn(q, w == 3);
     }
     if w == 4 {
         return put_hunter(q);

@@ -1,8 +1,8 @@
 -- Each part that is lent lies within its table.
 use Rattle.session_trial.proofs.Parts.{cells-fit, moves-fit}
 use borrow.Author.Needs.{needs}
-use Rattle.session_trial.proofs.change.Statement.{statement}
-use Rattle.session_trial.proofs.change.Tie as tie
+use Rattle.session_trial.proofs.change_drawn.Statement.{statement}
+use Rattle.session_trial.proofs.change_drawn.Tie as tie
 
 drawn-change-requires : tie.Need-drawn-change-requires
 drawn-change-requires c κs = search needs
@@ -94,8 +94,8 @@ note-requires c κs = search needs
 returns : tie.Need-returns
 returns c = search needs
 
-pub change-spec : {M : Type 1} → statement M
-change-spec =
+pub change-drawn-spec : {M : Type 1} → statement M
+change-drawn-spec =
     tie.close
     (tie.spec
     drawn-change-requires
