@@ -5,8 +5,10 @@ use mathlib.Core.List.{List, [], _∷_}
 use Prim.Native.Nat.{ℕ, _+_, _-_, _*_, _/_, _%_, _≤_, _<_}
 use native.Mathlib.Nat.{mul-le-mul, add-mul, mod-lt, div-add-mod'}
 use native.Mathlib.Omega.{arith}
-use lib.Dec.{lit<}
+use lib.Dec.{lit<, ltb}
 use lib.ListN.{length, getD}
+use Rattle.decide.specs.Decides.{Decides}
+use Rattle.decide.proofs.DecideLaws.{decides-lt}
 use Rattle.method.specs.Graph.{Move, move}
 use Rattle.method.specs.Tables.{choose}
 use Rattle.plan.specs.Directions.{rowStep, columnStep, opposite}
@@ -29,19 +31,58 @@ area z = mul-le-mul (z .low) (z .narrow)
 pub placed : {width height s r c : ℕ} → Size width height → Stands width s r c → s < height * width → (r < 64) × (c < 64)
 placed {width} {height} {s} z a l = (omega (arith, stands-row a, row-lt {width = width} {height = height} {s = s} (z .wide) l, z .low), omega (arith, a .column-lt, z .narrow))
 
+-- a step neither up nor down
+level : (d : ℕ) → d < 4 → rowStep d ≢ 0 → rowStep d ≢ 2 → rowStep d ≡ 1
+level d ld up down = omega (arith, opposes d ld .rows)
+
+-- .. leads to the left or to the right
+aside : (d : ℕ) → d < 4 → rowStep d ≡ 1 → columnStep d ≢ 0 → columnStep d ≡ 2
+aside d ld e n = omega (arith, opposes d ld .one-away)
+
 -- the tests of a spot are those of its cell
 module _ {width height s d r c : ℕ} (a : Stands width s r c) where
-  pub stays-by : s < height * width → 1 ≤ r + rowStep d → r + rowStep d ≤ height → 1 ≤ c + columnStep d → c + columnStep d ≤ width → Stays width height s d
-  stays-by l n s w e = record {
+  stays-by : s < height * width → (1 ≤ r + rowStep d) × (r + rowStep d ≤ height) × (1 ≤ c + columnStep d) × (c + columnStep d ≤ width) → Stays width height s d
+  stays-by l m = record {
     from-in = l;
-    north = rw (stands-row a) n;
-    south = rw (stands-row a) s;
-    west = rw (stands-column a) w;
-    east = rw (stands-column a) e;
+    north = rw (stands-row a) (m .0);
+    south = rw (stands-row a) (m .1);
+    west = rw (stands-column a) (m .2);
+    east = rw (stands-column a) (m .3);
   }
 
-  pub stays-gives : Stays width height s d → (1 ≤ r + rowStep d) × (r + rowStep d ≤ height) × (1 ≤ c + columnStep d) × (c + columnStep d ≤ width)
+  stays-gives : Stays width height s d → (1 ≤ r + rowStep d) × (r + rowStep d ≤ height) × (1 ≤ c + columnStep d) × (c + columnStep d ≤ width)
   stays-gives m = (rw (stands-row a) at (m .north), rw (stands-row a) at (m .south), rw (stands-column a) at (m .west), rw (stands-column a) at (m .east))
+
+  -- by the step's row and column, the one side on which the move could leave
+  module _ (l : s < height * width) (ld : d < 4) where
+    in-row : r < height
+    in-row = rw (stands-row a) at (row-lt (omega (arith, a .column-lt)) l)
+
+    pub stays-up : rowStep d ≡ 0 → Decides (ltb 0 r) (Stays width height s d)
+    stays-up e =
+        decides-lt 0 r
+        (λ k. stays-by l (omega (arith, in-row, a .column-lt, opposes d ld .one-away)))
+        (λ m. omega (arith, stays-gives m))
+
+    pub stays-down : rowStep d ≡ 2 → Decides (ltb (r + 1) height) (Stays width height s d)
+    stays-down e =
+        decides-lt (r + 1) height
+        (λ k. stays-by l (omega (arith, in-row, a .column-lt, opposes d ld .one-away)))
+        (λ m. omega (arith, stays-gives m))
+
+    pub stays-left : rowStep d ≢ 0 → rowStep d ≢ 2 → columnStep d ≡ 0 → Decides (ltb 0 c) (Stays width height s d)
+    stays-left up down e =
+        decides-lt 0 c
+        (λ k. stays-by l (omega (arith, level d ld up down, in-row, a .column-lt)))
+        (λ m. omega (arith, stays-gives m))
+
+    pub stays-right : rowStep d ≢ 0 → rowStep d ≢ 2 → columnStep d ≢ 0 → Decides (ltb (c + 1) width) (Stays width height s d)
+    stays-right up down n =
+        let e = level d ld up down in
+        let f = aside d ld e n in
+        decides-lt (c + 1) width
+        (λ k. stays-by l (omega (arith, in-row, a .column-lt)))
+        (λ m. omega (arith, stays-gives m))
 
 -- where a move leads to stands at the spot moved to
 pub moved-at : {width height s d : ℕ} {at to : Spot} → 1 ≤ width → At width s at → Stays width height s d

@@ -82,25 +82,23 @@ pub fn onward(width: usize, at: Spot) -> Spot
     }
 }
 
-// Does the move from a spot in a direction stay in the plan?
+// Does the move from a spot in a direction stay in the plan? It could leave it on one side only.
 pub fn stays_in(width: usize, height: usize, at: Spot, d: usize) -> bool
     requires { ⌜ d < 4 ⌝ }
     requires { ⌜ Placed at ⌝ }
     ensures { λ r. ⌜ ((s : ℕ) → At width s at → s < height * width → Decides r (Stays width height s d)) ⌝ }
 {
     let shift = shift_of(d);
-    let down = at.row + shift.row;
-    if down == 0 {
-        return false;
+    if shift.row == 0 {
+        return 0 < at.row;
     }
-    if height < down {
-        return false;
+    if shift.row == 2 {
+        return at.row + 1 < height;
     }
-    let right = at.column + shift.column;
-    if right == 0 {
-        return false;
+    if shift.column == 0 {
+        return 0 < at.column;
     }
-    right <= width
+    at.column + 1 < width
 }
 
 // The spot that a move from a spot leads to, where it stays in the plan.
