@@ -1,14 +1,12 @@
 -- Tables are sound exactly if the record's numbers and every cell obey the check's rules.
 use mathlib.Core.Path.{_≡_, refl, sym, ap, subst, _∙_}
-use mathlib.Core.Bool.{Bool, true, false, cond}
+use mathlib.Core.Bool.{Bool, true, false}
 use mathlib.Core.Logic.{_⊎_, inl, inr, ⊎-elim, _≢_}
 use mathlib.Core.List.{List}
 use Prim.Native.Nat.{ℕ, _+_, _-_, _*_, _≤_, _<_, min}
 use native.Mathlib.Omega.{arith}
 use native.Mathlib.Decide.{ℕ-discrete, decLt}
-use lib.Dec.{eqb}
 use lib.ListN.{getD, length}
-use borrow.Author.Tests.{eq-eqb, ne-eqb}
 use Rattle.method.specs.Numbers.{infinite, mostSearches, growth}
 use Rattle.method.specs.Graph.{Graph, Comes}
 use Rattle.method.specs.Tables.{Via, Least, keyNumber, storedKey, lesser, firstKey, calculatedKey}
@@ -21,21 +19,13 @@ use Rattle.plan.specs.Directions.{opposite}
 use Rattle.plan.specs.Cells.{Size, Stays, stays, entered, estimate}
 use Rattle.plan.specs.Costs.{Plan, byte, shut, IsCost, IsByte, Bytes, Edges, Obeys}
 use Rattle.plan.proofs.DirectionLaws.{opposes}
-use Rattle.plan.proofs.CellLaws.{enters}
+use Rattle.plan.proofs.CellLaws.{enters, stays-back, back-again}
 use Rattle.plan.proofs.GridLaws.{Open, into-is, into-has}
 use Rattle.plan.proofs.MoveLaws.{area, cost-of, not-a-cost}
 use Rattle.tables.specs.declared.Session.{Session}
 use Rattle.tables.specs.Lent.{Tables, Fits, cells, floor, graph, session, core}
 use Rattle.tables.specs.Sound.{Sound}
-use Rattle.tables.specs.Rules.{most, Numbers, claimed, SumRule, WayRule, OwnRule, NotAbove, KeyRule, CellRules}
-
-claimed-other : {hunter u : ℕ} (r : ℕ) → u ≢ hunter → claimed hunter u r ≡ r
-unfolding claimed
-claimed-other r n = simp (ne-eqb _ _ n)
-
-claimed-own : {hunter u : ℕ} (r : ℕ) → u ≡ hunter → claimed hunter u r ≡ 0
-unfolding claimed
-claimed-own r e = simp (eq-eqb _ _ e)
+use Rattle.tables.specs.Rules.{most, Numbers, MoveRule, WayRule, OwnRule, NotAbove, KeyRule, CellRules}
 
 -- the order of key numbers is that of the pairs
 not-above-number : (a b c d : ℕ) → b < 4294967296 → NotAbove a b c d → keyNumber a b ≤ keyNumber c d
@@ -69,7 +59,7 @@ module _ (s : Session) (t : Tables) (z : Size (s .width) (s .height)) (fit : Fit
   key-of u l n = first-finite (huntOf (graph s t) (session s)) u (lesser (core t) u) (omega (arith, rhs32 u))
 
   module _ (N : Numbers s) (C : (u : ℕ) → u < cells s → CellRules s t u) where
-    way : (u d : ℕ) → u < cells s → d < 4 → WayRule (floor s (t .plan)) (t .g) (claimed (s .origin) u (getD (t .rhs) u 0)) (getD (t .parent) u 0) u d
+    way : (u d : ℕ) → u < cells s → d < 4 → WayRule (floor s (t .plan)) (t .rhs) (t .parent) (s .origin) (getD (t .g) u 0) u d
     way u d l ld = C u l .ways d ld
 
     own : (u : ℕ) → u < cells s → OwnRule (most s) (s .origin) u (getD (t .g) u 0) (getD (t .rhs) u 0) (getD (t .parent) u 0)
@@ -82,7 +72,7 @@ module _ (s : Session) (t : Tables) (z : Size (s .width) (s .height)) (fit : Fit
     bytes u d l ld = at (stays (s .width) (s .height) u d)
       where
         at : Dec (Stays (s .width) (s .height) u d) → IsByte (byte (floor s (t .plan)) u d)
-        at (yes m) = way u d l ld .stays-in m .0
+        at (yes m) = way u d l ld .stays-in m .is-byte
         at (no n) = inr (way u d l ld .leaves n .0)
 
     edges : Edges (floor s (t .plan))
@@ -92,9 +82,12 @@ module _ (s : Session) (t : Tables) (z : Size (s .width) (s .height)) (fit : Fit
     g-finite u l = ⊎-elim (λ (e : getD (t .g) u 0 ≡ infinite). omega arith) (λ (k : getD (t .g) u 0 ≤ most s). omega (arith, k, N .searches)) (own u l .g-le)
 
     module _ (u : ℕ) (l : u < cells s) (n : u ≢ s .origin) where
+      -- the moves into u: each is a move out of the neighbour
       sums : (d : ℕ) → d < 4 → (m : Stays (s .width) (s .height) u d)
-          → SumRule (byte (floor s (t .plan)) (entered (s .width) u d) (opposite d)) (getD (t .g) (entered (s .width) u d) 0) (getD (t .rhs) u 0) (getD (t .parent) u 0) (d + 1)
-      sums d ld m = rw (claimed-other (getD (t .rhs) u 0) n) at (way u d l ld .stays-in m .1)
+          → MoveRule (s .origin) (byte (floor s (t .plan)) (entered (s .width) u d) (opposite d)) (getD (t .g) (entered (s .width) u d) 0) u (getD (t .rhs) u 0) (getD (t .parent) u 0) (d + 1)
+      sums d ld m =
+          let R = way (entered (s .width) u d) (opposite d) (enters (z .wide) m .inside) (opposes d ld .small) .stays-in (stays-back (z .wide) ld m) in
+          rw (opposes d ld .back) at (rw (back-again (z .wide) ld m) at R)
 
       parent-gives : (d : ℕ) → d < 4 → getD (t .parent) u 0 ≡ d + 1 → getD (t .rhs) u 0 ≢ infinite
           → (getD (t .rhs) u 0 < infinite) × Via (graph s t) (λ w. getD (t .g) w 0) u (getD (t .rhs) u 0) (getD (t .parent) u 0)
@@ -113,7 +106,7 @@ module _ (s : Session) (t : Tables) (z : Size (s .width) (s .height)) (fit : Fit
                   from = v;
                   cost = c;
                   comes = into-has (floor s (t .plan)) (z .wide) u (getD (t .parent) u 0) v c (record { direction = d; small = ld; named = e; stays-in = m; from = refl; costs = refl; is-cost = is-cost });
-                  sum = R .gives unshut e;
+                  sum = R .opened unshut .gives e;
                 },
               )
 
@@ -123,7 +116,7 @@ module _ (s : Session) (t : Tables) (z : Size (s .width) (s .height)) (fit : Fit
         least = λ k w c i.
             let o = into-is (floor s (t .plan)) (z .wide) u k w c i in
             let ec : c ≡ byte (floor s (t .plan)) (entered (s .width) u (o .direction)) (opposite (o .direction)) = o .costs ∙ ap (λ x. byte (floor s (t .plan)) x (opposite (o .direction))) (o .from) in
-            omega (arith, sums (o .direction) (o .small) (o .stays-in) .least (λ q. not-a-cost (ec ∙ q) (o .is-cost)), ec, ap (λ x. getD (t .g) x 0) (o .from));
+            omega (arith, sums (o .direction) (o .small) (o .stays-in) .opened (λ q. not-a-cost (ec ∙ q) (o .is-cost)) .least n, ec, ap (λ x. getD (t .g) x 0) (o .from));
         reached = at (ℕ-discrete (getD (t .parent) u 0) 0);
       }
         where
@@ -225,31 +218,39 @@ module _ (s : Session) (t : Tables) (z : Size (s .width) (s .height)) (fit : Fit
         o .costs ∙ ap (λ x. byte (floor s (t .plan)) x (opposite (o .direction))) f ∙ ap (λ x. byte (floor s (t .plan)) (entered (s .width) u d) (opposite x)) k in
         (subst (λ x. Stays (s .width) (s .height) u x) k (o .stays-in), subst IsCost c (o .is-cost), omega (arith, m .1 .sum, c, ap (λ x. getD (t .g) x 0) f))
 
-    way-rule : (u d : ℕ) → u < cells s → d < 4 → WayRule (floor s (t .plan)) (t .g) (claimed (s .origin) u (getD (t .rhs) u 0)) (getD (t .parent) u 0) u d
-    way-rule u d l ld = at (ℕ-discrete u (s .origin))
+    -- the hunter has no parent
+    not-hunter : (u d : ℕ) → getD (t .parent) u 0 ≡ d + 1 → u ≢ s .origin
+    not-hunter u d x e = let q : getD (t .parent) u 0 ≡ 0 = rw e (S .numbers .hunter-parent) in omega arith
+
+    -- the move into u from its neighbour in direction d
+    move-rule : (u d : ℕ) → u < cells s → d < 4 → Stays (s .width) (s .height) u d
+        → MoveRule (s .origin) (byte (floor s (t .plan)) (entered (s .width) u d) (opposite d)) (getD (t .g) (entered (s .width) u d) 0) u (getD (t .rhs) u 0) (getD (t .parent) u 0) (d + 1)
+    move-rule u d l ld m =
+        let v = entered (s .width) u d in
+        let c = byte (floor s (t .plan)) (entered (s .width) u d) (opposite d) in
+        let is-byte = S .plan .bytes v (opposite d) (enters (z .wide) m .inside) (opposes d ld .small) in
+        record {
+          is-byte = is-byte;
+          closed = λ q x. not-a-cost q (named-move u d l ld (not-hunter u d x) x .1);
+          opened = λ q. record {
+            gives = λ x. named-move u d l ld (not-hunter u d x) x .2;
+            least = λ n.
+                S .numbers .least u l n .least (d + 1) v c
+                (into-has (floor s (t .plan)) (z .wide) u (d + 1) v c (record { direction = d; small = ld; named = refl; stays-in = m; from = refl; costs = refl; is-cost = cost-of is-byte q }));
+          };
+        }
+
+    -- the move out of u is the move into the cell entered
+    way-rule : (u d : ℕ) → u < cells s → d < 4 → WayRule (floor s (t .plan)) (t .rhs) (t .parent) (s .origin) (getD (t .g) u 0) u d
+    way-rule u d l ld = record {
+      leaves = λ off. (S .plan .edges u d l ld off, λ x. off (named-move u d l ld (not-hunter u d x) x .0));
+      stays-in = λ m. turned m (move-rule (entered (s .width) u d) (opposite d) (enters (z .wide) m .inside) (opposes d ld .small) (stays-back (z .wide) ld m));
+    }
       where
-        at : Dec (u ≡ s .origin) → WayRule (floor s (t .plan)) (t .g) (claimed (s .origin) u (getD (t .rhs) u 0)) (getD (t .parent) u 0) u d
-        at (yes e) =
-            let q : getD (t .parent) u 0 ≡ 0 = rw e (S .numbers .hunter-parent) in
-            rw (claimed-own (getD (t .rhs) u 0) e) (record {
-              leaves = λ off. (S .plan .edges u d l ld off, λ x. omega arith);
-              stays-in = λ m. (S .plan .bytes u d l ld, record { closed = λ _ x. omega arith; least = λ _. omega arith; gives = λ _ x. absurd (omega arith) });
-            })
-        at (no n) =
-            rw (claimed-other (getD (t .rhs) u 0) n) (record {
-              leaves = λ off. (S .plan .edges u d l ld off, λ x. off (named-move u d l ld n x .0));
-              stays-in = λ m. (
-                S .plan .bytes u d l ld,
-                record {
-                  closed = λ c x. not-a-cost c (named-move u d l ld n x .1);
-                  least = λ c.
-                      let is-cost = cost-of (S .plan .bytes (entered (s .width) u d) (opposite d) (enters (z .wide) m .inside) (opposes d ld .small)) c in
-                      S .numbers .least u l n .least (d + 1) (entered (s .width) u d) (byte (floor s (t .plan)) (entered (s .width) u d) (opposite d))
-                      (into-has (floor s (t .plan)) (z .wide) u (d + 1) (entered (s .width) u d) (byte (floor s (t .plan)) (entered (s .width) u d) (opposite d)) (record { direction = d; small = ld; named = refl; stays-in = m; from = refl; costs = refl; is-cost = is-cost }));
-                  gives = λ c x. named-move u d l ld n x .2;
-                },
-              );
-            })
+        turned : (m : Stays (s .width) (s .height) u d)
+            → MoveRule (s .origin) (byte (floor s (t .plan)) (entered (s .width) (entered (s .width) u d) (opposite d)) (opposite (opposite d))) (getD (t .g) (entered (s .width) (entered (s .width) u d) (opposite d)) 0) (entered (s .width) u d) (getD (t .rhs) (entered (s .width) u d) 0) (getD (t .parent) (entered (s .width) u d) 0) (opposite d + 1)
+            → MoveRule (s .origin) (byte (floor s (t .plan)) u d) (getD (t .g) u 0) (entered (s .width) u d) (getD (t .rhs) (entered (s .width) u d) 0) (getD (t .parent) (entered (s .width) u d) 0) (opposite d + 1)
+        turned m R = rw (opposes d ld .back) at (rw (back-again (z .wide) ld m) at R)
 
     pub cell-rules : (u : ℕ) → u < cells s → CellRules s t u
     cell-rules u l = record {

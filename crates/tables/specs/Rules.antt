@@ -1,10 +1,8 @@
 -- Soundness as the check looks at it: rules that are local to the record, to one cell, or to one cell and direction.
 use mathlib.Core.Path.{_≡_}
-use mathlib.Core.Bool.{Bool, true, false, cond}
 use mathlib.Core.Logic.{_⊎_, _≢_}
 use mathlib.Core.List.{List}
 use Prim.Native.Nat.{ℕ, _+_, _*_, _≤_, _<_, min}
-use lib.Dec.{eqb}
 use lib.ListN.{getD}
 use Rattle.method.specs.Numbers.{infinite, mostEstimate, mostSearches, growth}
 use Rattle.queue.specs.Queue.{absent}
@@ -29,21 +27,22 @@ pub record Numbers (s : Session) : Type 0 where
   pub searches : s .searches ≤ mostSearches
   pub km : s .km ≤ mostEstimate * s .searches
 
--- The rhs that a cell claims to be a least sum; the search's hunter claims nothing, and 0 passes every test.
-unfoldable pub claimed : ℕ → ℕ → ℕ → ℕ
-claimed hunter s rhs = cond (eqb s hunter) 0 rhs
+-- The sum that an open move into cell v gives, k being its parent code: v's rhs r is this sum if v's parent p is there, and not above it, unless v is the search's hunter.
+pub record SumRule (hunter v r p sum k : ℕ) : Type 0 where
+  pub gives : p ≡ k → r ≡ sum
+  pub least : v ≢ hunter → r ≤ sum
 
--- The claim r with parent p against the move of byte c from a cell whose g is `far`, where k is the move's parent code.
-pub record SumRule (c far r p k : ℕ) : Type 0 where
-  pub closed : c ≡ shut → p ≢ k
-  pub least : c ≢ shut → r ≤ far + c
-  pub gives : c ≢ shut → p ≡ k → r ≡ far + c
+-- The move of byte b into cell v from a cell whose g is x: a cost or shut; if shut, v's parent is not there; if open, its g + cost obeys the rule of sums.
+pub record MoveRule (hunter b x v r p k : ℕ) : Type 0 where
+  pub is-byte : IsByte b
+  pub closed : b ≡ shut → p ≢ k
+  pub opened : b ≢ shut → SumRule hunter v r p (x + b) k
 
--- Cell s and direction d: the byte of the move, and the claim of s against the move back.
-pub record WayRule (p : Plan) (g : List ℕ) (r parent s d : ℕ) : Type 0 where
-  pub leaves : (Stays (p .width) (p .height) s d → ⊥) → (byte p s d ≡ shut) × (parent ≢ d + 1)
-  pub stays-in : Stays (p .width) (p .height) s d
-      → IsByte (byte p s d) × SumRule (byte p (entered (p .width) s d) (opposite d)) (getD g (entered (p .width) s d) 0) r parent (d + 1)
+-- The move from cell u, whose g is x, in direction d: one that would leave the plan is shut, and u's parent is not there; any other is held against the cell entered.
+pub record WayRule (p : Plan) (rhs parent : List ℕ) (hunter x u d : ℕ) : Type 0 where
+  pub leaves : (Stays (p .width) (p .height) u d → ⊥) → (byte p u d ≡ shut) × (getD parent u 0 ≢ d + 1)
+  pub stays-in : Stays (p .width) (p .height) u d
+      → MoveRule hunter (byte p u d) x (entered (p .width) u d) (getD rhs (entered (p .width) u d) 0) (getD parent (entered (p .width) u d) 0) (opposite d + 1)
 
 -- A cell's own numbers: g in its bound; the hunter's rhs in its bound and its parent 0; another cell's parent 0 exactly if its rhs is infinite.
 pub record OwnRule (bound hunter s g r p : ℕ) : Type 0 where
@@ -75,4 +74,4 @@ pub record AloneRule (s : Session) (g rhs parent k1 k2 place list : List ℕ) (u
 -- Every rule of cell u.
 pub record CellRules (s : Session) (t : Tables) (u : ℕ) : Type 0 where
   pub alone : AloneRule s (t .g) (t .rhs) (t .parent) (t .k1) (t .k2) (t .place) (t .list) u
-  pub ways : (d : ℕ) → d < 4 → WayRule (floor s (t .plan)) (t .g) (claimed (s .origin) u (getD (t .rhs) u 0)) (getD (t .parent) u 0) u d
+  pub ways : (d : ℕ) → d < 4 → WayRule (floor s (t .plan)) (t .rhs) (t .parent) (s .origin) (getD (t .g) u 0) u d

@@ -13,7 +13,7 @@ ghost use Rattle.plan.specs.Costs.{planOf};
 ghost use Rattle.plan.specs.Reached.{At, Placed};
 ghost use Rattle.tables.specs.Lent.{cells, given, before, Fits};
 ghost use Rattle.tables.specs.Sound.{Sound};
-ghost use Rattle.tables.specs.Rules.{Numbers, claimed, SumRule, WayRule, OwnRule, KeyRule, ValueRule, AloneRule};
+ghost use Rattle.tables.specs.Rules.{Numbers, SumRule, MoveRule, WayRule, OwnRule, KeyRule, ValueRule, AloneRule};
 
 // The session record: the plan's size, hunter and target as placed, those of the last search taken over (origin and goal), km, the queue's count, and the number of searches since the last fresh start.
 #[repr(C)]
@@ -97,63 +97,66 @@ fn numbers_hold(s: Session) -> bool
     s.km <= 126 * s.searches
 }
 
-// The rhs that a cell claims to be a least sum; the hunter's claims nothing.
-fn claim(hunter: usize, s: usize, rhs: u32) -> u32
-    ensures { λ r. ⌜ r ≡ claimed hunter s rhs ⌝ }
+// Does cell v, with rhs r and parent p, agree with the sum that an open move into it gives, whose parent code is k? The hunter's rhs may be above it.
+fn sum_holds(hunter: usize, v: usize, r: u32, p: u8, sum: usize, k: usize) -> bool
+    ensures { λ a. ⌜ Decides a (SumRule hunter v r p sum k) ⌝ }
 {
-    if s == hunter {
-        return 0;
-    }
-    rhs
-}
-
-// Does the claim r with parent p agree with the move of byte c from a cell whose g is far? The sum is taken in 64 bits, so that no content wraps and infinite needs no test.
-fn sum_holds(c: u8, far: u32, r: u32, p: u8, k: usize) -> bool
-    ensures { λ a. ⌜ Decides a (SumRule c far r p k) ⌝ }
-{
-    let parent = p as usize;
-    if c == 255 {
-        return parent != k;
-    }
-    let sum = far as usize + c as usize;
     let own = r as usize;
-    if parent == k {
+    if p as usize == k {
         return own == sum;
     }
-    own <= sum
+    if own <= sum {
+        return true;
+    }
+    v == hunter
 }
 
-// Does the move from cell s in direction d obey the plan's rules, and the claim of s the move back?
+// Is b a cost or shut, and does cell v agree with the move of byte b into it from a cell whose g is x? The sum is taken in 64 bits, so that no content wraps and infinite needs no test.
+fn move_holds(hunter: usize, b: u8, x: u32, v: usize, r: u32, p: u8, k: usize) -> bool
+    ensures { λ a. ⌜ Decides a (MoveRule hunter b x v r p k) ⌝ }
+{
+    if b <= 250 {
+        if b == 0 {
+            return false;
+        }
+        return sum_holds(hunter, v, r, p, x as usize + b as usize, k);
+    }
+    if b != 255 {
+        return false;
+    }
+    p as usize != k
+}
+
+// Does the move from cell u, whose g is x, in direction d agree with the plan's edge, or else with the cell that it enters?
 fn way_holds(
     width: usize,
     height: usize,
+    hunter: usize,
     plan: &[u8],
-    g: &[u32],
-    r: u32,
-    p: u8,
-    s: usize,
+    rhs: &[u32],
+    parent: &[u8],
+    x: u32,
+    u: usize,
     at: Spot,
     d: usize,
 ) -> bool
     requires { ⌜ Size width height ⌝ }
-    requires { ⌜ (length (now g) ≡ height * width) × (length (now plan) ≡ 4 * (height * width)) ⌝ }
-    requires { ⌜ (At width s at) × (s < height * width) × (d < 4) ⌝ }
-    ensures { λ a. ⌜ Decides a (WayRule (planOf width height (now (plan .entry))) (now (g .entry)) r p s d) ⌝ }
+    requires { ⌜ (length (now plan) ≡ 4 * (height * width)) × (length (now rhs) ≡ height * width) × (length (now parent) ≡ height * width) ⌝ }
+    requires { ⌜ (At width u at) × (u < height * width) × (d < 4) ⌝ }
+    ensures { λ a. ⌜ Decides a (WayRule (planOf width height (now (plan .entry))) (now (rhs .entry)) (now (parent .entry)) hunter x u d) ⌝ }
 {
-    let b = plan[4 * s + d];
+    let b = plan[4 * u + d];
     if !plan::stays_in(width, height, at, d) {
         if b != 255 {
             return false;
         }
+        let p = parent[u];
         return p as usize != d + 1;
     }
-    if !plan::is_byte(b) {
-        return false;
-    }
-    let v = plan::entered(width, s, d);
-    let c = plan[4 * v + (d + 2) % 4];
-    let far = g[v];
-    sum_holds(c, far, r, p, d + 1)
+    let v = plan::entered(width, u, d);
+    let r = rhs[v];
+    let p = parent[v];
+    move_holds(hunter, b, x, v, r, p, (d + 2) % 4 + 1)
 }
 
 // Is x infinite or within the bound?
@@ -308,10 +311,9 @@ pub fn is_sound(
             ok = false;
             break 'cells;
         }
-        let r = claim(s.origin, u, rhs[u]);
-        let p = parent[u];
+        let x = g[u];
         for d in 0..4 {
-            if !way_holds(s.width, s.height, plan, g, r, p, u, at, d) {
+            if !way_holds(s.width, s.height, s.origin, plan, rhs, parent, x, u, at, d) {
                 ok = false;
                 break 'cells;
             }

@@ -1,6 +1,5 @@
 -- The walk carries the spot of the cell; every cell passed obeys its rules, and so does every direction passed of the one at hand.
 use borrow.Author.Count.{below-more}
-use borrow.Author.Needs.{needs}
 use borrow.Author.Tests.{not-true, not-false}
 use mathlib.Core.Path.{_≡_, refl}
 use mathlib.Core.Bool.{true}
@@ -12,16 +11,15 @@ use Rattle.plan.specs.Reached.{At}
 use Rattle.plan.proofs.MoveLaws.{area, placed}
 use Rattle.tables.specs.Lent.{tables}
 use Rattle.tables.specs.Rules.{WayRule, CellRules}
-use Rattle.tables.proofs.WalkLaws.{way-as}
 use Rattle.tables.proofs.SoundLaws.{sound-of-rules, numbers-rule, cell-rules}
 use Rattle.tables.proofs.is_sound.Statement.{statement}
 use Rattle.tables.proofs.is_sound.Tie as tie
 
 abbrev Inv-loop : tie.InvT-loop
-Inv-loop s plan g rhs parent k1 k2 place list cells aim at ok₀ u r p d₀ ok d = (d ≤ 4) × (ok ≡ true) × ((e : ℕ) → e < d → WayRule (planOf (s .width) (s .height) plan) g r p u e)
+Inv-loop s plan g rhs parent k1 k2 place list cells aim at ok₀ u x d₀ ok d = (d ≤ 4) × (ok ≡ true) × ((e : ℕ) → e < d → WayRule (planOf (s .width) (s .height) plan) rhs parent (s .origin) x u e)
 
 abbrev μ-loop : tie.MeasureT-loop
-μ-loop s plan g rhs parent k1 k2 place list cells aim at ok₀ u r p d₀ ok d = 4 - d
+μ-loop s plan g rhs parent k1 k2 place list cells aim at ok₀ u x d₀ ok d = 4 - d
 
 abbrev Inv-cells : tie.InvT-cells
 Inv-cells s plan g rhs parent k1 k2 place list cells aim at₀ ok₀ u₀ at ok u = (u ≤ cells) × (ok ≡ true) × (At (s .width) u at) × ((v : ℕ) → v < u → CellRules s (tables plan g rhs parent k1 k2 place list) v)
@@ -49,23 +47,19 @@ alone-holds-requires c κs =
     let f = c .before .before .before .before .before .before .before .before .before .before .before .before .before .before .pre .1 in
     ((c .before .before .before .before .before .before .before .before .before .before .before .before .before .before .pre .0, c .before .before .before .before .before .numbers-hold .ensures .so (not-false _ (c .before .before .before .before .if1 .left))), ((f .g, f .rhs, f .parent), (record { in1 = f .k1; in2 = f .k2; inPlace = f .place; inList = f .list }, (c .before .cells .inv .2, c .before .before .spot-of .ensures, c .cells-test .taken))))
 
-mul-claim : tie.Need-mul-claim Inv-loop μ-loop Inv-cells μ-cells
-mul-claim c = omega (arith, c .before .before .cells-test .taken, area (c .before .before .before .before .before .before .before .before .before .before .before .before .before .before .before .before .pre .0))
+mul-x : tie.Need-mul-x Inv-loop μ-loop Inv-cells μ-cells
+mul-x c = omega (arith, c .before .before .cells-test .taken, area (c .before .before .before .before .before .before .before .before .before .before .before .before .before .before .before .before .pre .0))
 
-shared-slice-read-claim : tie.Need-shared-slice-read-claim Inv-loop μ-loop Inv-cells μ-cells
-shared-slice-read-claim c = omega (arith, c .before .before .before .cells-test .taken, c .before .before .before .before .before .before .before .before .before .before .before .before .before .before .before .before .before .pre .1 .rhs)
-
-claim-requires : tie.Need-claim-requires Inv-loop μ-loop Inv-cells μ-cells
-claim-requires c κs = search needs
-
-shared-slice-read-p : tie.Need-shared-slice-read-p Inv-loop μ-loop Inv-cells μ-cells
-shared-slice-read-p c = omega (arith, c .before .before .before .before .before .cells-test .taken, c .before .before .before .before .before .before .before .before .before .before .before .before .before .before .before .before .before .before .before .pre .1 .parent)
+shared-slice-read-x : tie.Need-shared-slice-read-x Inv-loop μ-loop Inv-cells μ-cells
+shared-slice-read-x c = omega (arith, c .before .before .before .cells-test .taken, c .before .before .before .before .before .before .before .before .before .before .before .before .before .before .before .before .before .pre .1 .g)
 
 loop-holds : tie.Need-loop-holds Inv-loop μ-loop Inv-cells μ-cells
-loop-holds c = (omega arith, c .before .before .before .before .before .before .cells .inv .1, λ e l. absurd (omega arith))
+loop-holds c = (omega arith, c .before .before .before .before .cells .inv .1, λ e l. absurd (omega arith))
 
 way-holds-requires : tie.Need-way-holds-requires Inv-loop μ-loop Inv-cells μ-cells
-way-holds-requires c κs = (c .before .before .before .before .before .before .before .before .before .before .before .before .before .before .before .before .before .before .before .before .before .pre .0, ((c .before .before .before .before .before .before .before .before .before .before .before .before .before .before .before .before .before .before .before .before .before .pre .1 .g, c .before .before .before .before .before .before .before .before .before .before .before .before .before .before .before .before .before .before .before .before .before .pre .1 .plan), (c .before .before .before .before .before .before .before .before .cells .inv .2, c .before .before .before .before .before .before .before .cells-test .taken, c .loop-test .taken)))
+way-holds-requires c κs =
+    let p = c .before .before .before .before .before .before .before .before .before .before .before .before .before .before .before .before .before .before .before .pre in
+    (p .0, ((p .1 .plan, p .1 .rhs, p .1 .parent), (c .before .before .before .before .before .before .cells .inv .2, c .before .before .before .before .before .cells-test .taken, c .loop-test .taken)))
 
 add-d : tie.Need-add-d Inv-loop μ-loop Inv-cells μ-cells
 add-d c = omega arith
@@ -80,25 +74,25 @@ loop-again c =
 
 onward-requires : tie.Need-onward-requires Inv-loop μ-loop Inv-cells μ-cells
 onward-requires c κs =
-    let a = c .before .before .before .before .before .before .before .before .cells .inv .2 in
-    (placed (c .before .before .before .before .before .before .before .before .before .before .before .before .before .before .before .before .before .before .before .before .before .pre .0) a (c .before .before .before .before .before .before .before .cells-test .taken) .0, a .column-lt, c .before .before .before .before .before .before .before .before .before .before .before .before .before .before .before .before .before .before .before .before .before .pre .0 .narrow)
+    let a = c .before .before .before .before .before .before .cells .inv .2 in
+    (placed (c .before .before .before .before .before .before .before .before .before .before .before .before .before .before .before .before .before .before .before .pre .0) a (c .before .before .before .before .before .cells-test .taken) .0, a .column-lt, c .before .before .before .before .before .before .before .before .before .before .before .before .before .before .before .before .before .before .before .pre .0 .narrow)
 
 add-u : tie.Need-add-u Inv-loop μ-loop Inv-cells μ-cells
-add-u c = omega (arith, c .before .before .before .before .before .before .before .before .cells-test .taken, area (c .before .before .before .before .before .before .before .before .before .before .before .before .before .before .before .before .before .before .before .before .before .before .pre .0))
+add-u c = omega (arith, c .before .before .before .before .before .before .cells-test .taken, area (c .before .before .before .before .before .before .before .before .before .before .before .before .before .before .before .before .before .before .before .before .pre .0))
 
 cells-less : tie.Need-cells-less Inv-loop μ-loop Inv-cells μ-cells
-cells-less c = omega (arith, c .before .before .before .before .before .before .before .before .cells-test .taken)
+cells-less c = omega (arith, c .before .before .before .before .before .before .cells-test .taken)
 
 cells-again : tie.Need-cells-again Inv-loop μ-loop Inv-cells μ-cells
 cells-again c =
-    let i = c .before .before .before .before .before .before .before .before .before .cells .inv in
+    let i = c .before .before .before .before .before .before .before .cells .inv in
     let j = c .before .before .loop .inv in (
-      omega (arith, c .before .before .before .before .before .before .before .before .cells-test .taken),
+      omega (arith, c .before .before .before .before .before .before .cells-test .taken),
       j .1,
       c .onward .ensures _ (i .2),
       below-more _ _ (i .3) (record {
-        alone = c .before .before .before .before .before .before .before .alone-holds .ensures .so (not-false _ (c .before .before .before .before .before .before .if2 .left));
-        ways = λ d q. rw (c .before .before .before .before .claim .ensures) at (j .2 d (omega (arith, c .before .loop-test .left)));
+        alone = c .before .before .before .before .before .alone-holds .ensures .so (not-false _ (c .before .before .before .before .if2 .left));
+        ways = λ d q. j .2 d (omega (arith, c .before .loop-test .left));
       }),
     )
 
@@ -111,7 +105,7 @@ returns-3 : tie.Need-returns-3 Inv-loop μ-loop Inv-cells μ-cells
 returns-3 c = decides-no (λ S. refuted (c .before .alone-holds .ensures) (not-true _ (c .if2 .taken)) (cell-rules _ _ (c .before .before .before .before .before .before .before .before .before .before .before .before .before .before .before .before .pre .0) (c .before .before .before .before .before .before .before .before .before .before .before .before .before .before .before .before .pre .1) (λ i. omega (arith, c .before .before .before .before .before .before .before .before .before .before .before .before .before .shared-slice-known3 .given i)) (λ i. omega (arith, c .before .before .before .before .before .before .before .before .before .before .shared-slice-known6 .given i)) S _ (c .before .before .cells-test .taken) .alone))
 
 returns-4 : tie.Need-returns-4 Inv-loop μ-loop Inv-cells μ-cells
-returns-4 c = decides-no (λ S. refuted (c .before .way-holds .ensures) (not-true _ (c .if3 .taken)) (way-as (c .before .before .before .before .before .claim .ensures) (cell-rules _ _ (c .before .before .before .before .before .before .before .before .before .before .before .before .before .before .before .before .before .before .before .before .before .before .before .pre .0) (c .before .before .before .before .before .before .before .before .before .before .before .before .before .before .before .before .before .before .before .before .before .before .before .pre .1) (λ i. omega (arith, c .before .before .before .before .before .before .before .before .before .before .before .before .before .before .before .before .before .before .before .before .shared-slice-known3 .given i)) (λ i. omega (arith, c .before .before .before .before .before .before .before .before .before .before .before .before .before .before .before .before .before .shared-slice-known6 .given i)) S _ (c .before .before .before .before .before .before .before .before .before .cells-test .taken) .ways _ (c .before .before .loop-test .taken))))
+returns-4 c = decides-no (λ S. refuted (c .before .way-holds .ensures) (not-true _ (c .if3 .taken)) (cell-rules _ _ (c .before .before .before .before .before .before .before .before .before .before .before .before .before .before .before .before .before .before .before .before .before .pre .0) (c .before .before .before .before .before .before .before .before .before .before .before .before .before .before .before .before .before .before .before .before .before .pre .1) (λ i. omega (arith, c .before .before .before .before .before .before .before .before .before .before .before .before .before .before .before .before .before .before .shared-slice-known3 .given i)) (λ i. omega (arith, c .before .before .before .before .before .before .before .before .before .before .before .before .before .before .before .shared-slice-known6 .given i)) S _ (c .before .before .before .before .before .before .before .cells-test .taken) .ways _ (c .before .before .loop-test .taken)))
 
 pub is-sound-spec : {M : Type 1} → statement M
 is-sound-spec =
@@ -127,10 +121,8 @@ is-sound-spec =
     spot-of-requires
     cells-holds
     alone-holds-requires
-    mul-claim
-    shared-slice-read-claim
-    claim-requires
-    shared-slice-read-p
+    mul-x
+    shared-slice-read-x
     loop-holds
     way-holds-requires
     add-d

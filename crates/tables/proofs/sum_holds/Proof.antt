@@ -1,29 +1,21 @@
 use native.Mathlib.Omega.{arith}
-use Rattle.decide.proofs.DecideLaws.{decides-eq, decides-le, decides-ne}
+use Rattle.decide.proofs.DecideLaws.{decides-eq}
+use Rattle.tables.proofs.WalkLaws.{hunter-by}
 use borrow.Author.Needs.{needs}
 use Rattle.tables.proofs.sum_holds.Statement.{statement}
 use Rattle.tables.proofs.sum_holds.Tie as tie
 
 returns : tie.Need-returns
-returns c =
-    decides-ne _ _
-    (λ n. record { closed = λ _. n; least = λ m. absurd (m (c .if1 .taken)); gives = λ m. absurd (m (c .if1 .taken)) })
-    (λ S. S .closed (c .if1 .taken))
-
-add-sum : tie.Need-add-sum
-add-sum c = search needs
+returns c = decides-eq _ _ (λ e. record { gives = λ _. e; least = λ _. omega arith }) (λ S. S .gives (c .if1 .taken))
 
 returns-2 : tie.Need-returns-2
-returns-2 c =
-    decides-eq _ _
-    (λ e. record { closed = λ z. absurd (c .before .if1 .left z); least = λ _. omega arith; gives = λ _ _. e })
-    (λ S. S .gives (c .before .if1 .left) (c .if2 .taken))
+returns-2 c = search needs
 
 returns-3 : tie.Need-returns-3
 returns-3 c =
-    decides-le _ _
-    (λ l. record { closed = λ z. absurd (c .before .if1 .left z); least = λ _. l; gives = λ _ e. absurd (c .if2 .left e) })
-    (λ S. S .least (c .before .if1 .left))
+    decides-eq _ _
+    (λ e. record { gives = λ k. absurd (c .before .if1 .left k); least = λ n. absurd (n e) })
+    (λ S. hunter-by (c .if2 .left) S)
 
 pub sum-holds-spec : {M : Type 1} → statement M
-sum-holds-spec = tie.close (tie.spec returns add-sum returns-2 returns-3)
+sum-holds-spec = tie.close (tie.spec returns returns-2 returns-3)
