@@ -57,10 +57,19 @@ fn entered(width: usize, cell: usize, d: usize) -> usize {
     cell + row * width + column - (width + 1)
 }
 
+/// Does the move stay in the plan? A direction can leave it on one side only.
 fn stays_in(width: usize, height: usize, at: Spot, d: usize) -> bool {
     let (row, column) = SHIFTS[d];
-    let (down, right) = (at.row + row, at.column + column);
-    down != 0 && down <= height && right != 0 && right <= width
+    if row == 0 {
+        return 0 < at.row;
+    }
+    if row == 2 {
+        return at.row + 1 < height;
+    }
+    if column == 0 {
+        return 0 < at.column;
+    }
+    at.column + 1 < width
 }
 
 fn moved(at: Spot, d: usize) -> Spot {
@@ -152,26 +161,27 @@ impl Cut<'_> {
         self.k2[u] <= m
     }
 
-    /// Does the move from cell u in direction d obey the plan's rules, and the claim of u the move back?
+    /// Does the move from cell u, whose g is x, in direction d agree with the plan's edge, or else with the cell that it enters?
     #[inline(always)]
-    fn way_holds(self, claim: u32, parent: u8, u: usize, at: Spot, d: usize) -> bool {
+    fn way_holds(self, origin: usize, x: u32, u: usize, at: Spot, d: usize) -> bool {
         let byte = self.plan[4 * u + d];
         if !stays_in(self.width, self.height, at, d) {
-            return byte == SHUT && parent as usize != d + 1;
-        }
-        if !is_byte(byte) {
-            return false;
+            return byte == SHUT && self.parent[u] as usize != d + 1;
         }
         let v = entered(self.width, u, d);
-        let cost = self.plan[4 * v + (d + 2) % 4];
-        if cost == SHUT {
-            return parent as usize != d + 1;
+        let is_parent = self.parent[v] as usize == (d + 2) % 4 + 1;
+        if byte > 250 {
+            return byte == SHUT && !is_parent;
         }
-        let sum = self.g[v] as u64 + cost as u64;
-        if parent as usize == d + 1 {
-            claim as u64 == sum
+        if byte == 0 {
+            return false;
+        }
+        let sum = x as u64 + byte as u64;
+        let rhs = self.rhs[v] as u64;
+        if is_parent {
+            rhs == sum
         } else {
-            claim as u64 <= sum
+            rhs <= sum || v == origin
         }
     }
 }
@@ -395,10 +405,9 @@ impl Session {
             if !tables.value_holds(bound, self.origin, estimate(at, self.aim), self.km, u) {
                 return false;
             }
-            let claim = if u == self.origin { 0 } else { tables.rhs[u] };
-            let parent = tables.parent[u];
+            let x = tables.g[u];
             for d in 0..4 {
-                if !tables.way_holds(claim, parent, u, at, d) {
+                if !tables.way_holds(self.origin, x, u, at, d) {
                     return false;
                 }
             }

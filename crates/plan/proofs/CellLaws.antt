@@ -1,5 +1,5 @@
 -- Leaving by a direction and coming back by its opposite returns to the cell; neighbours are different cells; their directions are unique.
-use mathlib.Core.Path.{_≡_, refl, sym, ap, _∙_}
+use mathlib.Core.Path.{_≡_, sym, ap, _∙_}
 use mathlib.Core.Logic.{_≢_}
 use Prim.Native.Nat.{ℕ, zero, suc, _+_, _-_, _*_, _/_, _%_, _≤_, _<_}
 use native.Mathlib.Nat.{div-add-mod', mod-lt, div-lt-iff-lt-mul, add-mul, suc-mul}

@@ -1,11 +1,10 @@
 -- The table's rule, by one test that is computed over all of its entries.
-use mathlib.Core.Path.{_≡_, refl, sym, ap, _∙_}
+use mathlib.Core.Path.{_≡_}
 use mathlib.Core.Bool.{Bool, true, false}
-use Prim.Native.Nat.{ℕ, zero, suc, _+_, _-_, _*_, _≤_, _<_}
+use Prim.Native.Nat.{ℕ, zero, suc, _+_, _-_, _*_, _<_}
 use native.Mathlib.Omega.{arith}
 use native.Mathlib.Decide.{ℕ-discrete}
 use lib.Dec.{T, ltb, eqb, ltb→lt, eqb→eq}
-use lib.ListN.{getD}
 use Rattle.plan.specs.Directions.{shifts, rowStep, columnStep, opposite}
 use Rattle.plan.specs.Cells.{apart}
 

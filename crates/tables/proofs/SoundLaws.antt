@@ -1,14 +1,13 @@
 -- Tables are sound exactly if the record's numbers and every cell obey the check's rules.
 use mathlib.Core.Path.{_≡_, refl, sym, ap, subst, _∙_}
-use mathlib.Core.Bool.{Bool, true, false}
+use mathlib.Core.Bool.{true, false}
 use mathlib.Core.Logic.{_⊎_, inl, inr, ⊎-elim, _≢_}
 use mathlib.Core.List.{List}
-use Prim.Native.Nat.{ℕ, _+_, _-_, _*_, _≤_, _<_, min}
+use Prim.Native.Nat.{ℕ, _+_, _-_, _≤_, _<_}
 use native.Mathlib.Omega.{arith}
 use native.Mathlib.Decide.{ℕ-discrete, decLt}
-use lib.ListN.{getD, length}
-use Rattle.method.specs.Numbers.{infinite, mostSearches, growth}
-use Rattle.method.specs.Graph.{Graph, Comes}
+use lib.ListN.{getD}
+use Rattle.method.specs.Numbers.{infinite}
 use Rattle.method.specs.Tables.{Via, Least, keyNumber, storedKey, lesser, firstKey, calculatedKey}
 use Rattle.method.specs.Session.{huntOf}
 use Rattle.method.proofs.Entries.{first-finite}
@@ -17,7 +16,7 @@ use Rattle.queue.proofs.MemberLaws.{length-members, member-at, missing, is-abse
 use Rattle.queue.proofs.RuleLaws.{heap-of-rules, entry-rule, cell-rule}
 use Rattle.plan.specs.Directions.{opposite}
 use Rattle.plan.specs.Cells.{Size, Stays, stays, entered, estimate}
-use Rattle.plan.specs.Costs.{Plan, byte, shut, IsCost, IsByte, Bytes, Edges, Obeys}
+use Rattle.plan.specs.Costs.{Plan, byte, shut, IsCost, IsByte, Bytes, Edges}
 use Rattle.plan.proofs.DirectionLaws.{opposes}
 use Rattle.plan.proofs.CellLaws.{enters, stays-back, back-again}
 use Rattle.plan.proofs.GridLaws.{Open, into-is, into-has}

@@ -1,13 +1,13 @@
 -- The check's rules as the code tests them, return by return.
-use mathlib.Core.Path.{_≡_, refl, sym, ap, _∙_}
-use mathlib.Core.Bool.{Bool, true, false, not}
+use mathlib.Core.Path.{_≡_, sym, _∙_}
+use mathlib.Core.Bool.{Bool, false, not}
 use mathlib.Core.Logic.{_⊎_, inl, inr, ⊎-elim, _≢_}
 use mathlib.Core.List.{List}
 use Prim.Native.Nat.{ℕ, _+_, _*_, _≤_, _<_, min}
 use native.Mathlib.Omega.{arith}
 use native.Mathlib.Decide.{ℕ-discrete}
 use lib.Dec.{eqb, leb, ltb}
-use lib.ListN.{getD, length}
+use lib.ListN.{getD}
 use Rattle.decide.specs.Decides.{Decides}
 use Rattle.decide.proofs.DecideLaws.{decides-no, decides-ne, decides-le, decides-lt, decides-as}
 use Rattle.queue.specs.Queue.{absent}

@@ -1,6 +1,4 @@
 use borrow.Author.Needs.{needs}
-use borrow.Author.Tests.{eqb-true, eq-eqb}
-use native.Mathlib.Omega.{arith}
 use Rattle.decide.proofs.DecideLaws.{decides-yes, decides-eq, refuted}
 use Rattle.plan.proofs.edge_holds.Statement.{statement}
 use Rattle.plan.proofs.edge_holds.Tie as tie

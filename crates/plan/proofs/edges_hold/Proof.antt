@@ -1,6 +1,5 @@
 -- The walk carries the spot of the cell; every cell and direction passed obeys the rule.
 use borrow.Author.Count.{below-more}
-use borrow.Author.Needs.{needs}
 use borrow.Author.Tests.{not-true, not-false}
 use mathlib.Core.Path.{_≡_, refl}
 use mathlib.Core.Bool.{true}

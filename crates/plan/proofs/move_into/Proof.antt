@@ -1,5 +1,4 @@
 use borrow.Author.Needs.{needs}
-use mathlib.Core.Path.{_≡_, ap}
 use native.Mathlib.Omega.{arith}
 use Rattle.plan.proofs.DirectionLaws.{opposes}
 use Rattle.plan.proofs.MoveLaws.{area, row-part, into-shut, into-open, sum-long, entered-in}

@@ -1,9 +1,5 @@
 use borrow.Author.Needs.{needs}
-use mathlib.Core.Path.{_≡_, ap, _∙_}
-use mathlib.Core.List.{_∷_, []}
 use native.Mathlib.Omega.{arith}
-use Rattle.method.specs.Graph.{move}
-use Rattle.plan.specs.Directions.{opposite}
 use Rattle.plan.proofs.MoveLaws.{area, out-shut, out-open, open-stays, sum-long}
 use Rattle.plan.proofs.move_out.Statement.{statement}
 use Rattle.plan.proofs.move_out.Tie as tie

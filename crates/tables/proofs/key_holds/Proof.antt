@@ -1,4 +1,3 @@
-use mathlib.Core.Path.{_≡_}
 use Rattle.decide.proofs.DecideLaws.{decides-no, decides-eq}
 use Rattle.tables.proofs.WalkLaws.{key-by-first, key-by-second}
 use borrow.Author.Needs.{needs}
