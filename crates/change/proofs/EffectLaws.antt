@@ -12,7 +12,6 @@ use Rattle.method.specs.Tables as method
 use Rattle.method.specs.Session.{moveChanged}
 use Rattle.method.proofs.Choices.{choose-is, choose-yes, choose-no}
 use Rattle.plan.specs.Directions.{rowStep, columnStep}
-use Rattle.plan.specs.Cells.{Stands}
 use Rattle.plan.specs.Costs.{IsByte, IsCost, withByte, Obeys}
 use Rattle.plan.specs.Grid.{graphOf}
 use Rattle.plan.specs.Reached.{At}
@@ -22,8 +21,9 @@ use Rattle.plan.proofs.MoveLaws.{area, sum-long, cost-of}
 use Rattle.plan.proofs.ChangeLaws.{changed-obeys}
 use Rattle.tables.specs.declared.Session.{Session}
 use Rattle.tables.specs.Lent.{Tables, tables, cells, floor, graph, core}
+use Rattle.entries.specs.declared.Aim.{Aim}
 use Rattle.entries.specs.declared.Found.{Found}
-use Rattle.entries.specs.Aims.{aimOf, mostG, mostRhs}
+use Rattle.entries.specs.Aims.{AimOf, mostG, mostRhs}
 use Rattle.entries.specs.Became.{Entering, Entered, foundOf}
 use Rattle.entries.proofs.SmallLaws.{sound-small-g, sound-small-rhs, sound-held}
 use Rattle.entries.proofs.FoundLaws.{entering, held-rhs, small-rhs, anew-small}
@@ -156,19 +156,20 @@ module _ {s : Session} {t : Tables} {u d cost : ℕ} (W : Workable s t u d cost)
               subst (λ x. (x ≡ infinite) ⊎ (x ≤ mostRhs)) (sym er) (anew-small (floor s (replanned s t u d cost)) obeys-after (t .g) (sound-small-g (W .sound)) v)
 
       -- its entry can be set right
-      pub asked-entering : {row column : ℕ} {at : Spot} → Stands (s .width) (s .goal) row column → At (s .width) v at
-          → Entering (aimOf s row column) (s .count) v at (t .g) (set (t .rhs) v r) (t .k1) (t .k2) (t .place) (t .list)
-      asked-entering {row} {column} goal at =
-          entering
+      pub asked-entering : {a : Aim} {at : Spot} → AimOf s a → At (s .width) v at → Entering a (s .count) v at (t .g) (set (t .rhs) v r) (t .k1) (t .k2) (t .place) (t .list)
+      asked-entering {a} {at} O here =
+          let held = sound-held (W .sound) (replanned s t u d cost) (a .row) (a .column) in
+          subst (λ x. Entering x (s .count) v at (t .g) (set (t .rhs) v r) (t .k1) (t .k2) (t .place) (t .list)) (sym (O .is))
+          (entering
           (record {
             obeys = obeys-after;
             hunter-in = W .sound .numbers .last-hunter-in;
             target-in = W .sound .numbers .last-target-in;
-            target-at = goal;
+            target-at = O .target-at;
             km-le = omega (arith, W .sound .numbers .km-le, W .sound .numbers .searches-le);
           })
-          (held-rhs v r p (sound-held (W .sound) (replanned s t u d cost) row column)) (sound-small-g (W .sound)) (small-rhs v r (sound-held (W .sound) (replanned s t u d cost) row column) (entered-in ev) sum-small (sound-small-rhs (W .sound)))
-          (entered-in ev) at
+          (held-rhs v r p held) (sound-small-g (W .sound)) (small-rhs v r held (entered-in ev) sum-small (sound-small-rhs (W .sound)))
+          (entered-in ev) here)
 
       -- and is what the method makes of it
       set-is : method.setRight (record { graph = graph s (withPlan t (replanned s t u d cost)); hunter = s .origin; target = s .goal; km = s .km }) (method.withRhs (core t) v r p) v ≡ methodChange s t u d cost
@@ -199,8 +200,8 @@ module _ {s : Session} {t : Tables} {u d cost : ℕ} (W : Workable s t u d cost)
           at (falls n f l) q = (n, inl (f, l))
           at (rises n f l) q = (n, inr (f, l))
 
-      pub set-worked : {row column count : ℕ} {k1′ k2′ place′ list′ : List ℕ} → Entered (aimOf s row column) v (t .g) (set (t .rhs) v r) (t .k1) (t .k2) (t .place) (t .list) count k1′ k2′ place′ list′
+      pub set-worked : {a : Aim} {count : ℕ} {k1′ k2′ place′ list′ : List ℕ} → AimOf s a → Entered a v (t .g) (set (t .rhs) v r) (t .k1) (t .k2) (t .place) (t .list) count k1′ k2′ place′ list′
           → WorkedIn s t u d cost count (tables (replanned s t u d cost) (t .g) (set (t .rhs) v r) (set (t .parent) v p) k1′ k2′ place′ list′)
-      set-worked E =
-          let B = E (replanned s t u d cost) (set (t .parent) v p) in
+      set-worked {a} {count} {k1′} {k2′} {place′} {list′} O E =
+          let B = subst (λ x. Entered x v (t .g) (set (t .rhs) v r) (t .k1) (t .k2) (t .place) (t .list) count k1′ k2′ place′ list′) (O .is) E (replanned s t u d cost) (set (t .parent) v p) in
           record { plan = refl; is = B .is ∙ set-is; heap = B .heap; untouched = λ n. absurd (n (touches-at touched)) }

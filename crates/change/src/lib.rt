@@ -1,6 +1,5 @@
 // The public call that changes a move, and the same without the check for tables known to be sound.
 use entries;
-use entries::Aim;
 use plan;
 use session;
 use tables;
@@ -115,16 +114,7 @@ fn work_in(
     };
     rhs[v] = sum;
     parent[v] = code;
-    let spot = plan::spot_of(s.width, s.goal);
-    let a = Aim {
-        width: s.width,
-        height: s.height,
-        hunter: s.origin,
-        target: s.goal,
-        row: spot.row,
-        column: spot.column,
-        km: s.km,
-    };
+    let a = entries::aim_of(s);
     let at = plan::spot_of(s.width, v);
     entries::set_right(a, g, rhs, k1, k2, place, list, s.count, v, at)
 }

@@ -19,12 +19,12 @@ use Rattle.plan.proofs.GridLaws.{graph-laws}
 use Rattle.tables.specs.declared.Session.{Session}
 use Rattle.tables.specs.Lent.{Tables, cells, floor, graph, session, core}
 use Rattle.tables.specs.Sound.{Sound}
+use Rattle.tables.proofs.SoundLaws.{sound-fits}
 use Rattle.session.specs.Refusals.{answered}
 use Rattle.session.specs.Promises.{Alike}
 use Rattle.session.proofs.RefusalLaws.{answer-refused, place-number, open-number}
 use Rattle.session.proofs.Theorems.{alike, alike-same}
 use Rattle.change.proofs.RefusalLaws.{change-number}
-use Rattle.take_over.proofs.TakeOverLaws.{restarting}
 use Rattle.answer.specs.declared.Answer.{Answer}
 use Rattle.answer.specs.declared.Answer.the-variants.{NoWay, Way, Refused}
 use Rattle.search.specs.declared.Outcome.{Outcome}
@@ -46,7 +46,7 @@ demand-1 = record {
 -- ---- 2 and 3: a search of sound tables, with room for the way, is not refused
 
 pub not-refused : {s : Session} {t t′ : Tables} (way : List ℕ) {way′ : List ℕ} {r : Outcome} → Sound s t → cells s ≤ length way → Searches s t way r t′ way′ → Searched s t way r t′ way′
-not-refused way S room P = P .done (search-passes way (P .rules) (restarting S .fits) S room)
+not-refused way S room P = P .done (search-passes way (P .rules) (sound-fits S) S room)
 
 module _ {s : Session} {t : Tables} (S : Sound s t) where
   laws : GraphLaws (graph s t)

@@ -1,15 +1,15 @@
 -- The first least sum, direction by direction.
-use mathlib.Core.Path.{_≡_, refl, sym, ap, subst, _∙_}
-use mathlib.Core.Logic.{_⊎_, inl, inr, ⊎-elim}
-use mathlib.Core.List.{List, [], _∷_, _++_}
-use Prim.Native.Nat.{ℕ, _+_, _*_, _≤_, _<_}
+use mathlib.Core.Path.{_≡_, refl, sym, ap, _∙_}
+use mathlib.Core.Logic.{_⊎_, ⊎-elim}
+use mathlib.Core.List.{List, [], _∷_}
+use Prim.Native.Nat.{ℕ, _+_, _≤_, _<_}
 use native.Mathlib.Numerals.{add-one}
 use native.Mathlib.Omega.{arith}
 use native.Mathlib.Decide.{decLt}
-use lib.ListN.{getD, length}
+use lib.ListN.{getD}
 use Rattle.method.specs.Numbers.{infinite}
 use Rattle.method.specs.Graph.{Move, move}
-use Rattle.method.specs.Tables.{Found, found, better, leastOver, choose}
+use Rattle.method.specs.Tables.{Found, found, better, leastOver}
 use Rattle.method.proofs.Choices.{choose-yes, choose-no}
 use Rattle.method.proofs.Appending.{leastOver-append}
 use Rattle.plan.specs.Costs.{Plan, cells, Obeys}
@@ -17,8 +17,8 @@ use Rattle.plan.specs.Grid.{intoBy, upTo}
 use Rattle.plan.specs.Reached.{listed}
 use Rattle.plan.specs.declared.Reach.{Reach}
 use Rattle.plan.specs.declared.Reach.the-variants.{Shut, To}
-use Rattle.plan.proofs.GridLaws.{Open, into-reach, open-from-in}
-use Rattle.entries.specs.Aims.{Small, mostG}
+use Rattle.plan.proofs.GridLaws.{into-reach, open-from-in}
+use Rattle.entries.specs.Aims.{Small}
 
 -- what an answer about a direction says
 pub said-shut : {r : Reach} (k : ℕ) {l : List Move} → r ≡ Shut → listed k r ≡ l → [] ≡ l

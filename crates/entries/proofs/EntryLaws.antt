@@ -1,17 +1,17 @@
 -- A cell's entry set right, way by way.
-use mathlib.Core.Path.{_≡_, refl, sym, ap, _∙_}
+use mathlib.Core.Path.{_≡_, refl, sym, _∙_}
 use mathlib.Core.Bool.{Bool, true, false}
 use mathlib.Core.Logic.{_≢_}
 use mathlib.Core.List.{List}
-use Prim.Native.Nat.{ℕ, _+_, _≤_, _<_, min}
+use Prim.Native.Nat.{ℕ, _+_, _<_, min}
 use native.Mathlib.Omega.{arith}
 use native.Mathlib.Decide.{ℕ-discrete}
 use lib.ListN.{getD, length}
-use Rattle.method.specs.Numbers.{infinite, mostEstimate}
+use Rattle.method.specs.Numbers.{infinite}
 use Rattle.method.specs.Tables as method
 use Rattle.method.proofs.Choices.{choose-yes, choose-no}
 use Rattle.method.proofs.Entries.{first-finite}
-use Rattle.queue.specs.Queue.{absent, members, Heap, Changed}
+use Rattle.queue.specs.Queue.{absent, Heap, Changed}
 use Rattle.queue.proofs.QueueLaws.{heap-as, absent-stays}
 use Rattle.plan.specs.Cells.{Stands, estimate}
 use Rattle.plan.specs.Reached.{At, Placed, between}
@@ -22,7 +22,7 @@ use Rattle.tables.specs.Lent.{tables, core}
 use Rattle.tables.proofs.WalkLaws.{estimate-at}
 use Rattle.entries.specs.declared.Aim.{Aim}
 use Rattle.entries.specs.Aims.{area, hunt}
-use Rattle.entries.specs.Became.{Became, Entering, Entered}
+use Rattle.entries.specs.Became.{Entering, Entered}
 
 -- The target's spot.
 abbrev pub goalSpot : Aim → Spot

@@ -1,14 +1,14 @@
 -- Tables that a number was set in, and a cell found anew.
-use mathlib.Core.Path.{_≡_, refl, sym, ap, subst, _∙_}
+use mathlib.Core.Path.{_≡_, sym, ap, subst, _∙_}
 use mathlib.Core.Logic.{_⊎_, inl, inr, ⊎-elim, _≢_}
 use mathlib.Core.List.{List}
-use Prim.Native.Nat.{ℕ, _+_, _*_, _≤_, _<_, min}
+use Prim.Native.Nat.{ℕ, _+_, _≤_, _<_, min}
 use native.Mathlib.Omega.{arith}
-use native.Mathlib.Decide.{ℕ-discrete, decLt}
+use native.Mathlib.Decide.{ℕ-discrete}
 use lib.ListN.{getD, set, length, length-set}
 use lib.Seq.{getD-set-same, getD-set-other}
-use Rattle.method.specs.Numbers.{infinite, mostCost, mostEstimate}
-use Rattle.method.specs.Graph.{Graph, GraphLaws}
+use Rattle.method.specs.Numbers.{infinite, mostEstimate}
+use Rattle.method.specs.Graph.{GraphLaws}
 use Rattle.method.specs.Tables as method
 use Rattle.method.proofs.LeastSums.{anew-least}
 use Rattle.plan.specs.Costs.{Plan, Obeys}
@@ -16,7 +16,7 @@ use Rattle.plan.specs.Grid.{graphOf}
 use Rattle.plan.specs.Reached.{At}
 use Rattle.plan.specs.declared.Spot.{Spot}
 use Rattle.plan.proofs.GridLaws.{graph-laws}
-use Rattle.tables.specs.Lent.{Tables, tables, core}
+use Rattle.tables.specs.Lent.{tables, core}
 use Rattle.entries.specs.declared.Aim.{Aim}
 use Rattle.entries.specs.declared.Found.{Found}
 use Rattle.entries.specs.Aims.{area, floor, hunt, mostG, mostRhs, mostKm, Aimed, Held, Small}

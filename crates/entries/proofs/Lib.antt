@@ -3,3 +3,5 @@ pub mod AnewLaws
 pub mod FoundLaws
 pub mod FreshLaws
 pub mod SmallLaws
+pub mod AimLaws
+pub mod BeginLaws

@@ -3,7 +3,7 @@ use mathlib.Core.Path.{_≡_}
 use mathlib.Core.Logic.{_⊎_}
 use mathlib.Core.List.{List}
 use Prim.Native.Nat.{ℕ, _*_, _≤_, _<_}
-use lib.ListN.{getD, length}
+use lib.ListN.{getD}
 use Rattle.method.specs.Numbers.{infinite}
 use Rattle.method.specs.Graph.{Hunt}
 use Rattle.method.specs.Tables.{Sized}
@@ -30,6 +30,11 @@ hunt a plan = record { graph = graphOf (floor a plan); hunter = a .hunter; targe
 abbrev pub aimOf : Session → ℕ → ℕ → Aim
 aimOf s row column =
     record { width = s .width; height = s .height; hunter = s .origin; target = s .goal; row = row; column = column; km = s .km }
+
+-- The aim a is that, its target's row and column found.
+pub record AimOf (s : Session) (a : Aim) : Type 0 where
+  pub is : a ≡ aimOf s (a .row) (a .column)
+  pub target-at : Stands (s .width) (s .goal) (a .row) (a .column)
 
 -- The greatest finite g, and the greatest finite rhs, that the inner functions add to without reaching infinite.
 abbrev pub mostG : ℕ

@@ -1,7 +1,7 @@
 -- What the inner functions promise.
 use mathlib.Core.Path.{_≡_}
 use mathlib.Core.List.{List}
-use Prim.Native.Nat.{ℕ, _+_, _≤_, _<_, min}
+use Prim.Native.Nat.{ℕ, _+_, _<_, min}
 use lib.ListN.{getD, length}
 use Rattle.method.specs.Numbers.{infinite, mostEstimate}
 use Rattle.method.specs.Tables as method
@@ -12,7 +12,7 @@ use Rattle.plan.specs.declared.Spot.{Spot}
 use Rattle.tables.specs.Lent.{Tables, tables, core}
 use Rattle.entries.specs.declared.Aim.{Aim}
 use Rattle.entries.specs.declared.Found.{Found}
-use Rattle.entries.specs.Aims.{area, hunt, mostKm}
+use Rattle.entries.specs.Aims.{area, hunt}
 
 -- What the method has as m is what the tables are now, and they hold a true heap again, of `count` cells.
 pub record Became (a : Aim) (count : ℕ) (t : Tables) (m : method.Tables) : Type 0 where

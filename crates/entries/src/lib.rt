@@ -1,10 +1,11 @@
-// A cell's queue entry set right, its rhs and parent found anew, and the tables as at a fresh start.
+// A cell's queue entry set right, its rhs and parent found anew, and the fresh start: record and tables.
 use plan;
 use plan::Reach;
 use plan::Spot;
 use queue;
+use tables::Session;
 ghost use mathlib.Core.Path.{_≡_};
-ghost use Prim.Native.Nat.{ℕ, _+_, _*_, _<_, _≤_, min};
+ghost use Prim.Native.Nat.{_+_, _*_, _<_, _≤_, min};
 ghost use lib.ListN.{length, replicate};
 ghost use Rattle.method.specs.Numbers.{infinite};
 ghost use Rattle.method.specs.Tables.{leastOver, anew as anewOf, foundAnew};
@@ -13,7 +14,8 @@ ghost use Rattle.plan.specs.Costs.{Obeys, planOf};
 ghost use Rattle.plan.specs.Grid.{intoBy, graphOf};
 ghost use Rattle.plan.specs.Reached.{At, Placed, between};
 ghost use Rattle.tables.specs.Lent.{core, given, before, after, Fits};
-ghost use Rattle.entries.specs.Aims.{area, floor, hunt, Aimed, Held, Small, mostG, mostRhs};
+ghost use Rattle.entries.specs.Aims.{area, floor, hunt, AimOf, Aimed, Held, Small, mostG, mostRhs};
+ghost use Rattle.entries.specs.Begin.{Openable, begun, Opened};
 ghost use Rattle.entries.specs.Became.{Became, Entering, Entered, foundOf};
 
 // What a search goes by: the plan's size, the hunter and the target taken over, the target's row and column, and km.
@@ -25,6 +27,23 @@ pub struct Aim {
     pub row: usize,
     pub column: usize,
     pub km: u32,
+}
+
+// What the last search taken over goes by.
+pub fn aim_of(s: Session) -> Aim
+    requires { ⌜ 1 ≤ s .width ⌝ }
+    ensures { λ r. ⌜ AimOf s r ⌝ }
+{
+    let spot = plan::spot_of(s.width, s.goal);
+    Aim {
+        width: s.width,
+        height: s.height,
+        hunter: s.origin,
+        target: s.goal,
+        row: spot.row,
+        column: spot.column,
+        km: s.km,
+    }
 }
 
 // The infinite number.
@@ -199,7 +218,7 @@ fn fill_bytes(xs: &mut [u8], v: u8)
 }
 
 // All tables as at a fresh start: all infinite and absent, but for the hunter, whose rhs is 0 and who is queued under its key. Returns the queue's count, which is 1.
-pub fn fresh(
+fn fresh(
     a: Aim,
     plan: &[u8],
     g: &mut [u32],
@@ -226,4 +245,38 @@ pub fn fresh(
     rhs[hunter] = 0;
     let at = plan::spot_of(a.width, hunter);
     set_right(a, g, rhs, k1, k2, place, list, 0, hunter, at)
+}
+
+// A fresh start at the cells given: fills all tables but the plan, and returns the record.
+pub fn begin(
+    width: usize,
+    height: usize,
+    hunter: usize,
+    target: usize,
+    plan: &[u8],
+    g: &mut [u32],
+    rhs: &mut [u32],
+    parent: &mut [u8],
+    k1: &mut [u32],
+    k2: &mut [u32],
+    place: &mut [u16],
+    list: &mut [u16],
+) -> Session
+    requires { ⌜ Openable width height hunter target (given plan g rhs parent k1 k2 place list) ⌝ }
+    ensures { λ r. ⌜ (r ≡ begun width height hunter target) × Opened width height hunter target (before plan g rhs parent k1 k2 place list) (after plan g rhs parent k1 k2 place list) ⌝ }
+{
+    let mut session = Session {
+        width,
+        height,
+        hunter,
+        target,
+        origin: hunter,
+        goal: target,
+        km: 0,
+        count: 0,
+        searches: 0,
+    };
+    let a = aim_of(session);
+    session.count = fresh(a, plan, g, rhs, parent, k1, k2, place, list);
+    session
 }

@@ -25,9 +25,9 @@ use Rattle.tables.specs.Lent.{Tables, tables, cells, floor, graph, session, cor
 use Rattle.tables.specs.Sound.{Sound}
 use Rattle.entries.specs.declared.Aim.{Aim}
 use Rattle.entries.specs.Aims as aims
-use Rattle.entries.specs.Aims.{Aimed, Held}
+use Rattle.entries.specs.Aims.{AimOf, Aimed, Held}
 use Rattle.steps.specs.Loop.{Started, Finished}
-use Rattle.take_over.specs.TakeOver.{AimOf, Holds}
+use Rattle.take_over.specs.TakeOver.{Holds}
 use Rattle.answer.specs.Way.{Leads}
 use Rattle.answer.proofs.WayLaws.{trail-leads}
 use Rattle.answer.specs.declared.Answer.{Answer}

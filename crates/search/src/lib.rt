@@ -1,6 +1,7 @@
 // One search: the refusals, the take-over, the steps, and the answer with its way.
 use answer;
 use answer::Answer;
+use entries;
 use session;
 use steps;
 use tables::Session;
@@ -66,7 +67,7 @@ pub fn search_sound(
         };
     }
     let mut t = take_over::take_over(s, plan, g, rhs, parent, k1, k2, place, list);
-    let a = take_over::aim_of(t);
+    let a = entries::aim_of(t);
     let ran = steps::run(a, plan, g, rhs, parent, k1, k2, place, list, t.count);
     t.count = ran.count;
     t.searches += 1;

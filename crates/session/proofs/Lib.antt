@@ -1,3 +1,2 @@
 pub mod RefusalLaws
-pub mod OpenLaws
 pub mod Theorems

@@ -8,8 +8,9 @@ use Rattle.tables.specs.declared.Session.{Session}
 use Rattle.tables.specs.Lent.{Tables, cells}
 use Rattle.tables.specs.Sound.{Sound}
 use Rattle.tables.proofs.SoundLaws.{sound-fits}
+use Rattle.entries.specs.Begin.{Openable}
 use Rattle.session.specs.declared.Answer.the-variants.{Done, Refused}
-use Rattle.session.specs.Refusals.{Ruled, fails, holds, Passed, passed, answered, PlaceRules, OpenRules, TableRules, Openable}
+use Rattle.session.specs.Refusals.{Ruled, fails, holds, Passed, passed, answered, PlaceRules, OpenRules, TableRules}
 
 -- ---- answers
 

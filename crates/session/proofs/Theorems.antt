@@ -22,11 +22,12 @@ use Rattle.plan.proofs.GridLaws.{graph-laws}
 use Rattle.tables.specs.declared.Session.{Session}
 use Rattle.tables.specs.Lent.{Tables, tables, cells, core}
 use Rattle.tables.specs.Sound.{Sound}
+use Rattle.entries.specs.Begin.{Openable, begun, Opened}
 use Rattle.session.specs.declared.Answer.{Answer}
 use Rattle.session.specs.declared.Answer.the-variants.{Done}
 use Rattle.session.specs.declared.Reply.{Reply}
-use Rattle.session.specs.Refusals.{answered, Openable}
-use Rattle.session.specs.Promises.{hunterAt, targetAt, begun, nothing, Places, Opened, Opens, Names, Alike}
+use Rattle.session.specs.Refusals.{answered}
+use Rattle.session.specs.Promises.{hunterAt, targetAt, nothing, Places, Opens, Names, Alike}
 use Rattle.session.proofs.RefusalLaws.{place-number, open-number, place-granted, open-granted, place-passes, open-passes}
 
 -- ---- answers and replies

@@ -1,14 +1,11 @@
 -- What place and open promise: the answer, the record and every table, for every input.
 use mathlib.Core.Path.{_≡_}
 use mathlib.Core.Logic.{_≢_, _↔_}
-use Prim.Native.Nat.{ℕ, _*_, _≤_, _<_}
+use Prim.Native.Nat.{ℕ, _≤_, _<_}
 use lib.ListN.{getD}
-use Rattle.method.specs.Session.{fresh}
-use Rattle.queue.specs.Queue.{Heap}
-use Rattle.plan.specs.Costs.{planOf}
-use Rattle.plan.specs.Grid.{graphOf}
 use Rattle.tables.specs.declared.Session.{Session}
 use Rattle.tables.specs.Lent.{Tables, core}
+use Rattle.entries.specs.Begin.{begun, Opened}
 use Rattle.session.specs.declared.Reply.{Reply}
 use Rattle.session.specs.Refusals.{answered, PlaceRules, OpenRules}
 
@@ -20,10 +17,6 @@ hunterAt s cell = record { width = s .width; height = s .height; hunter = cell; 
 
 abbrev pub targetAt : Session → ℕ → Session
 targetAt s cell = record { width = s .width; height = s .height; hunter = s .hunter; target = cell; origin = s .origin; goal = s .goal; km = s .km; count = s .count; searches = s .searches }
-
--- The record that open makes: "km and search number 0; the cells given stand as placed and as the last search's"; the hunter alone is queued.
-abbrev pub begun : ℕ → ℕ → ℕ → ℕ → Session
-begun width height hunter target = record { width = width; height = height; hunter = hunter; target = target; origin = hunter; goal = target; km = 0; count = 1; searches = 0 }
 
 -- The record that a refused open returns: "all fields 0".
 abbrev pub nothing : Session
@@ -40,12 +33,6 @@ pub record Places (s placed : Session) (cell : ℕ) (r : Reply) : Type 0 where
   pub done : number ≡ 0 → r .session ≡ placed
 
 -- ---- open
-
--- The tables t became t′: "g and rhs infinite, parent 0; the hunter's rhs 0 and the hunter queued under its key", in a true heap of one cell. The plan is as it was.
-pub record Opened (width height hunter target : ℕ) (t t′ : Tables) : Type 0 where
-  pub plan : t′ .plan ≡ t .plan
-  pub is : core t′ ≡ fresh (graphOf (planOf width height (t .plan))) hunter target
-  pub heap : Heap width (height * width) 1 (t′ .k1) (t′ .k2) (t′ .place) (t′ .list)
 
 -- A refused open returns the record with all fields 0 and changes no table.
 pub record Opens (width height hunter target : ℕ) (t : Tables) (r : Reply) (t′ : Tables) : Type 0 where

@@ -1,7 +1,7 @@
 -- Document 01's table of refusals: for each call its rules, each with its number, in the order of checking. Here those of place, open and every call on a session's tables.
 use Prim.Native.Nat.{ℕ, zero, suc, _*_, _<_}
 use Rattle.plan.specs.Cells.{Size}
-use Rattle.plan.specs.Costs.{planOf, Bytes, Edges, Obeys}
+use Rattle.plan.specs.Costs.{planOf, Bytes, Edges}
 use Rattle.tables.specs.declared.Session.{Session}
 use Rattle.tables.specs.Lent.{Tables, cells, Fits}
 use Rattle.tables.specs.Sound.{Sound}
@@ -46,10 +46,3 @@ TableRules s t rest =
     (Ruled (Fits (cells s) t) 2
     (Ruled (Sound s t) 6
     rest))
-
--- What an open that no rule refuses has.
-pub record Openable (width height hunter target : ℕ) (t : Tables) : Type 0 where
-  pub fits : Fits (height * width) t
-  pub hunter-in : hunter < height * width
-  pub target-in : target < height * width
-  pub obeys : Obeys (planOf width height (t .plan))

@@ -1,6 +1,5 @@
 // The public calls that make a record: open, place hunter, place target. The answers and refusals of every call on a session.
 use entries;
-use entries::Aim;
 use plan;
 use tables;
 ghost use Rattle.tables.specs.Lent.{before, after};
@@ -157,28 +156,20 @@ pub fn open(
             answer: Answer::Refused(number),
         };
     }
-    let spot = plan::spot_of(width, target);
-    let a = Aim {
+    let begun = entries::begin(
         width,
         height,
         hunter,
         target,
-        row: spot.row,
-        column: spot.column,
-        km: 0,
-    };
-    let count = entries::fresh(a, plan, g, rhs, parent, k1, k2, place, list);
-    let begun = tables::Session {
-        width,
-        height,
-        hunter,
-        target,
-        origin: hunter,
-        goal: target,
-        km: 0,
-        count,
-        searches: 0,
-    };
+        plan,
+        g,
+        rhs,
+        parent,
+        k1,
+        k2,
+        place,
+        list,
+    );
     Reply {
         session: begun,
         answer: Answer::Done,

@@ -1,66 +1,44 @@
 -- Target and hunter taken over, or a fresh start: the code's ways are the method's.
 use mathlib.Core.Path.{_≡_, refl, sym, ap, subst, _∙_}
 use mathlib.Core.Logic.{_≢_}
-use mathlib.Core.List.{List}
-use Prim.Native.Nat.{ℕ, _+_, _*_, _≤_, _<_}
+use Prim.Native.Nat.{ℕ, _+_, _*_, _<_}
 use native.Mathlib.Omega.{arith}
 use native.Mathlib.Decide.{ℕ-discrete}
 use lib.ListN.{getD, length, set, length-set}
 use Rattle.method.specs.Numbers.{infinite, mostSearches}
-use Rattle.method.specs.Graph.{Graph}
 use Rattle.method.specs.Tables as method
 use Rattle.method.specs.Session as calls
 use Rattle.method.proofs.Choices.{choose-yes, choose-no}
 use Rattle.method.proofs.Readying.{handedOver-sized}
-use Rattle.plan.specs.Cells.{Size, Stands, estimate}
-use Rattle.plan.specs.Costs.{Obeys}
-use Rattle.plan.specs.Grid.{graphOf}
+use Rattle.plan.specs.Cells.{Size, estimate}
 use Rattle.plan.specs.Reached.{At, Placed, between}
 use Rattle.plan.specs.declared.Spot.{Spot}
 use Rattle.plan.proofs.EstimateLaws.{estimate-le}
 use Rattle.plan.proofs.MoveLaws.{placed}
 use Rattle.tables.specs.declared.Session.{Session}
-use Rattle.tables.specs.Lent.{Tables, tables, cells, floor, graph, session, core, Fits}
+use Rattle.tables.specs.Lent.{Tables, tables, cells, graph, session, core}
 use Rattle.tables.specs.Sound.{Sound}
 use Rattle.tables.proofs.SoundLaws.{sound-fits}
 use Rattle.tables.proofs.WalkLaws.{estimate-at}
 use Rattle.entries.specs.declared.Aim.{Aim}
 use Rattle.entries.specs.Aims as aims
-use Rattle.entries.specs.Aims.{aimOf, hunt, Aimed, Held, Small, mostG, mostRhs, mostKm}
+use Rattle.entries.specs.Aims.{AimOf, hunt, Aimed, Held}
 use Rattle.entries.specs.Became.{Became}
+use Rattle.entries.specs.Begin.{Openable, begun, Opened}
+use Rattle.entries.proofs.AimLaws.{aimed, became-of}
 use Rattle.entries.proofs.SmallLaws.{sound-small-g, sound-small-rhs}
-use Rattle.take_over.specs.TakeOver.{AimOf, aimedAnew, handOver, Restarting, Aiming, Handing, Holds}
-
--- ---- what the last search goes by
-
-pub aimed : {s : Session} {a : Aim} {plan : List ℕ} → AimOf s a → Obeys (floor s plan) → s .origin < cells s → s .goal < cells s → s .km ≤ mostKm → Aimed a plan
-aimed {s} {a} {plan} O p h g k =
-    subst (λ x. Aimed x plan) (sym (O .is)) (record { obeys = p; hunter-in = h; target-in = g; target-at = O .target-at; km-le = k })
-
--- what the tables became, told of the record
-pub became-of : {s : Session} {a : Aim} {count : ℕ} {t : Tables} (f : Aim → method.Tables) → AimOf s a → Became a count t (f a)
-    → Became (aimOf s (a .row) (a .column)) count t (f (aimOf s (a .row) (a .column)))
-became-of {count = count} {t = t} f O = subst (λ x. Became x count t (f x)) (O .is)
+use Rattle.take_over.specs.TakeOver.{aimedAnew, handOver, Aiming, Handing, Holds}
 
 pub spot-placed : {width height cell : ℕ} {at : Spot} → Size width height → At width cell at → cell < height * width → Placed at
 spot-placed z a l = let q = placed z a l in record { row = q .0; column = q .1 }
 
 -- ---- a fresh start
 
--- The record of a fresh start at the placed cells, with so many cells queued.
-abbrev pub restarted : Session → ℕ → Session
-restarted s count = record { width = s .width; height = s .height; hunter = s .hunter; target = s .target; origin = s .hunter; goal = s .target; km = 0; count = count; searches = 0 }
-
-module _ {s : Session} {t : Tables} {a : Aim} (R : Restarting s t) (O : AimOf (restarted s 0) a) where
-  pub fresh-ready : (Aimed a (t .plan) × (a .km ≡ 0)) × Fits (aims.area a) t
-  fresh-ready =
-      ((aimed O (R .obeys) (R .hunter-in) (R .target-in) (omega arith), ap (λ x. x .km) (O .is)), subst (λ x. Fits (aims.area x) t) (sym (O .is)) (R .fits))
-
-  pub fresh-holds : {count : ℕ} {t′ : Tables} → Became a count t′ (calls.fresh (graphOf (aims.floor a (t .plan))) (a .hunter) (a .target))
-      → Holds s (calls.freshStart (graph s t) (s .hunter) (s .target)) (restarted s count) t′
-  fresh-holds B =
-      let b = became-of (λ x. calls.fresh (graphOf (aims.floor x (t .plan))) (x .hunter) (x .target)) O B in
-      record { wide = refl; high = refl; record-is = refl; tables-are = b .is; heap = b .heap }
+-- The state of a fresh start at the placed cells is the method's.
+pub begun-holds : {s r : Session} {t t′ : Tables} → (r ≡ begun (s .width) (s .height) (s .hunter) (s .target)) × Opened (s .width) (s .height) (s .hunter) (s .target) t t′
+    → Holds s (calls.freshStart (graph s t) (s .hunter) (s .target)) r t′
+begun-holds {s} {r} {t} {t′} (e, O) =
+    subst (λ x. Holds s (calls.freshStart (graph s t) (s .hunter) (s .target)) x t′) (sym e) (record { wide = refl; high = refl; record-is = refl; tables-are = O .is; heap = O .heap })
 
 -- ---- the target taken over
 
@@ -125,13 +103,8 @@ module _ {s : Session} {t : Tables} {a : Aim} (R : Handing s t) (O : AimOf (hand
 -- ---- the whole
 
 module _ {s : Session} {t : Tables} (S : Sound s t) where
-  pub restarting : Restarting s t
-  restarting = record {
-    obeys = S .plan;
-    fits = sound-fits S;
-    hunter-in = S .numbers .hunter-in;
-    target-in = S .numbers .target-in;
-  }
+  pub openable : Openable (s .width) (s .height) (s .hunter) (s .target) t
+  openable = record { fits = sound-fits S; hunter-in = S .numbers .hunter-in; target-in = S .numbers .target-in; obeys = S .plan }
 
   pub aiming : Aiming s
   aiming = record { size = S .plan .size; old-in = S .numbers .last-target-in; new-in = S .numbers .target-in; km-le = omega (arith, S .numbers .km-le, S .numbers .searches-le) }
@@ -152,9 +125,9 @@ module _ {s : Session} {t : Tables} (S : Sound s t) where
       })
 
   module _ {r : Session} {t′ : Tables} where
-    pub taken-late : s .searches ≡ 1000 → Holds s (calls.freshStart (graph s t) (s .hunter) (s .target)) r t′ → Holds s (calls.takenOver (graph s t) (session s) (core t)) r t′
+    pub taken-late : s .searches ≡ 1000 → (r ≡ begun (s .width) (s .height) (s .hunter) (s .target)) × Opened (s .width) (s .height) (s .hunter) (s .target) t t′ → Holds s (calls.takenOver (graph s t) (session s) (core t)) r t′
     unfolding calls.takenOver
-    taken-late e = subst (λ m. Holds s m r t′) (sym (choose-yes (ℕ-discrete (s .searches) mostSearches) _ _ e))
+    taken-late e B = subst (λ m. Holds s m r t′) (sym (choose-yes (ℕ-discrete (s .searches) mostSearches) _ _ e)) (begun-holds B)
 
     module _ (early : s .searches ≢ 1000) where
       pub taken-same : s .hunter ≡ s .origin → r ≡ aimedAnew s → t′ ≡ t → Holds s (calls.takenOver (graph s t) (session s) (core t)) r t′
@@ -165,12 +138,13 @@ module _ {s : Session} {t : Tables} (S : Sound s t) where
           (subst (λ x. Holds s (record { session = calls.targetTaken (graph s t) (session s); tables = core t }) (aimedAnew s) x) (sym et)
           (record { wide = refl; high = refl; record-is = refl; tables-are = refl; heap = S .heap })))
 
-      pub taken-far : s .hunter ≢ s .origin → getD (t .rhs) (s .hunter) 0 ≡ infinite → Holds s (calls.freshStart (graph s t) (s .hunter) (s .target)) r t′
+      pub taken-far : s .hunter ≢ s .origin → getD (t .rhs) (s .hunter) 0 ≡ infinite → (r ≡ begun (s .width) (s .height) (s .hunter) (s .target)) × Opened (s .width) (s .height) (s .hunter) (s .target) t t′
           → Holds s (calls.takenOver (graph s t) (session s) (core t)) r t′
       unfolding calls.takenOver
-      taken-far n e =
+      taken-far n e B =
           subst (λ m. Holds s m r t′)
           (sym (choose-no (ℕ-discrete (s .searches) mostSearches) _ _ early ∙ choose-no (ℕ-discrete (s .hunter) (s .origin)) _ _ n ∙ choose-yes (ℕ-discrete (getD (t .rhs) (s .hunter) 0) infinite) _ _ e))
+          (begun-holds B)
 
       pub taken-new : {m : Session} → s .hunter ≢ s .origin → getD (t .rhs) (s .hunter) 0 ≢ infinite → m ≡ aimedAnew s → Holds m (handOver m t) r t′
           → Holds s (calls.takenOver (graph s t) (session s) (core t)) r t′

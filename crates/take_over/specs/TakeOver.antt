@@ -1,21 +1,14 @@
 -- Taking over: what each function rests on, and the method's state that it leaves.
 use mathlib.Core.Path.{_≡_}
-use Prim.Native.Nat.{ℕ, _+_, _≤_, _<_}
-use lib.ListN.{length}
+use Prim.Native.Nat.{_+_, _≤_, _<_}
 use Rattle.method.specs.Tables.{Sized}
 use Rattle.method.specs.Session.{State, huntOf, hunterTaken, handedOver}
 use Rattle.queue.specs.Queue.{Heap}
-use Rattle.plan.specs.Cells.{Size, Stands, estimate}
+use Rattle.plan.specs.Cells.{Size, estimate}
 use Rattle.plan.specs.Costs.{Obeys}
 use Rattle.tables.specs.declared.Session.{Session}
-use Rattle.tables.specs.Lent.{Tables, cells, floor, graph, session, core, Fits}
-use Rattle.entries.specs.declared.Aim.{Aim}
-use Rattle.entries.specs.Aims.{aimOf, Small, mostG, mostRhs, mostKm}
-
--- What the last search goes by, its target's row and column found.
-pub record AimOf (s : Session) (a : Aim) : Type 0 where
-  pub is : a ≡ aimOf s (a .row) (a .column)
-  pub target-at : Stands (s .width) (s .goal) (a .row) (a .column)
+use Rattle.tables.specs.Lent.{Tables, cells, floor, graph, session, core}
+use Rattle.entries.specs.Aims.{Small, mostG, mostRhs, mostKm}
 
 -- The record and the tables are the method's state m, with a true heap; the size is as it was.
 pub record Holds (s : Session) (m : State) (r : Session) (t : Tables) : Type 0 where
@@ -24,13 +17,6 @@ pub record Holds (s : Session) (m : State) (r : Session) (t : Tables) : Type 0 w
   pub record-is : session r ≡ m .session
   pub tables-are : core t ≡ m .tables
   pub heap : Heap (s .width) (cells s) (r .count) (t .k1) (t .k2) (t .place) (t .list)
-
--- A fresh start can be made: an obedient plan, tables of their lengths, placed cells in the plan.
-pub record Restarting (s : Session) (t : Tables) : Type 0 where
-  pub obeys : Obeys (floor s (t .plan))
-  pub fits : Fits (cells s) t
-  pub hunter-in : s .hunter < cells s
-  pub target-in : s .target < cells s
 
 -- The target can be taken over: both targets are in the plan, and km leaves room for one more estimate.
 pub record Aiming (s : Session) : Type 0 where

@@ -1,63 +1,12 @@
 // Before its steps a search takes over the target and the hunter as placed, or starts fresh.
 use entries;
-use entries::Aim;
 use plan;
 use tables::Session;
 ghost use mathlib.Core.Path.{_≡_};
-ghost use Prim.Native.Nat.{_≤_, _<_};
-ghost use lib.ListN.{length};
-ghost use Rattle.method.specs.Session.{freshStart, takenOver};
-ghost use Rattle.tables.specs.Lent.{given, before, after, graph, session, core, cells};
+ghost use Rattle.method.specs.Session.{takenOver};
+ghost use Rattle.tables.specs.Lent.{given, before, after, graph, session, core};
 ghost use Rattle.tables.specs.Sound.{Sound};
-ghost use Rattle.take_over.specs.TakeOver.{AimOf, aimedAnew, handOver, Restarting, Aiming, Handing, Holds};
-
-// What the last search taken over goes by.
-pub fn aim_of(s: Session) -> Aim
-    requires { ⌜ 1 ≤ s .width ⌝ }
-    ensures { λ r. ⌜ AimOf s r ⌝ }
-{
-    let spot = plan::spot_of(s.width, s.goal);
-    Aim {
-        width: s.width,
-        height: s.height,
-        hunter: s.origin,
-        target: s.goal,
-        row: spot.row,
-        column: spot.column,
-        km: s.km,
-    }
-}
-
-// A fresh start, as open, at the placed cells.
-fn restart(
-    s: Session,
-    plan: &[u8],
-    g: &mut [u32],
-    rhs: &mut [u32],
-    parent: &mut [u8],
-    k1: &mut [u32],
-    k2: &mut [u32],
-    place: &mut [u16],
-    list: &mut [u16],
-) -> Session
-    requires { ⌜ Restarting s (given plan g rhs parent k1 k2 place list) ⌝ }
-    ensures { λ r. ⌜ Holds s (freshStart (graph s (before plan g rhs parent k1 k2 place list)) (s .hunter) (s .target)) r (after plan g rhs parent k1 k2 place list) ⌝ }
-{
-    let mut begun = Session {
-        width: s.width,
-        height: s.height,
-        hunter: s.hunter,
-        target: s.target,
-        origin: s.hunter,
-        goal: s.target,
-        km: 0,
-        count: 0,
-        searches: 0,
-    };
-    let a = aim_of(begun);
-    begun.count = entries::fresh(a, plan, g, rhs, parent, k1, k2, place, list);
-    begun
-}
+ghost use Rattle.take_over.specs.TakeOver.{aimedAnew, handOver, Aiming, Handing, Holds};
 
 // The target taken over: km grows by the estimate between old and new target.
 fn target_taken(s: Session) -> Session
@@ -91,7 +40,7 @@ fn hand_over(
     parent[h] = 0;
     let mut t = s;
     t.origin = h;
-    let a = aim_of(t);
+    let a = entries::aim_of(t);
     let at = plan::spot_of(s.width, s.origin);
     t.count = entries::found_anew(
         a,
@@ -126,7 +75,20 @@ pub fn take_over(
     ensures { λ r. ⌜ Holds s (takenOver (graph s (before plan g rhs parent k1 k2 place list)) (session s) (core (before plan g rhs parent k1 k2 place list))) r (after plan g rhs parent k1 k2 place list) ⌝ }
 {
     if s.searches == 1000 {
-        return restart(s, plan, g, rhs, parent, k1, k2, place, list);
+        return entries::begin(
+            s.width,
+            s.height,
+            s.hunter,
+            s.target,
+            plan,
+            g,
+            rhs,
+            parent,
+            k1,
+            k2,
+            place,
+            list,
+        );
     }
     let t = target_taken(s);
     let h = s.hunter;
@@ -134,7 +96,20 @@ pub fn take_over(
         return t;
     }
     if rhs[h] == entries::INFINITE {
-        return restart(s, plan, g, rhs, parent, k1, k2, place, list);
+        return entries::begin(
+            s.width,
+            s.height,
+            s.hunter,
+            s.target,
+            plan,
+            g,
+            rhs,
+            parent,
+            k1,
+            k2,
+            place,
+            list,
+        );
     }
     hand_over(t, plan, g, rhs, parent, k1, k2, place, list)
 }

@@ -59,14 +59,14 @@ slice-write-rhs c = omega (arith, entered-in (c .before .before .before .before 
 slice-write-parent : tie.Need-slice-write-parent
 slice-write-parent c = omega (arith, entered-in (c .before .before .before .before .before .before .before .before .before .before .before .before .before .before .before .before .before .pre) (c .before .before .before .before .before .before .before .before .entered .ensures), c .before .before .before .before .before .before .before .before .before .before .before .before .before .before .before .before .before .pre .sound .numbers .sized .parent)
 
+aim-of-requires : tie.Need-aim-of-requires
+aim-of-requires c κs = search needs
+
 spot-of-requires : tie.Need-spot-of-requires
 spot-of-requires c κs = search needs
 
-spot-of-requires-2 : tie.Need-spot-of-requires-2
-spot-of-requires-2 c κs = search needs
-
 set-right-requires : tie.Need-set-right-requires
-set-right-requires c κs = asked-entering (c .before .before .before .before .before .before .before .before .before .before .before .before .before .before .before .before .before .before .before .before .before .before .before .before .pre) (c .before .before .before .before .before .before .before .before .before .before .before .before .before .before .before .entered .ensures) (c .before .before .before .before .before .before .before .before .before .before .effect-of .ensures) (c .before .before .before .before .before .before .before .before .effect .given .1) (c .before .before .before .before .before .before .spot-of .ensures) (c .before .before .before .before .before .spot-of2 .ensures)
+set-right-requires c κs = asked-entering (c .before .before .before .before .before .before .before .before .before .before .before .before .before .before .before .before .before .before .before .before .before .before .before .before .pre) (c .before .before .before .before .before .before .before .before .before .before .before .before .before .before .before .entered .ensures) (c .before .before .before .before .before .before .before .before .before .before .effect-of .ensures) (c .before .before .before .before .before .before .before .before .effect .given .1) (c .before .before .before .before .before .before .aim-of .ensures) (c .before .before .before .before .before .spot-of .ensures)
 
 same-length-4 : tie.Need-same-length-4
 same-length-4 c = search needs
@@ -90,7 +90,7 @@ same-length-10 : tie.Need-same-length-10
 same-length-10 c = search needs
 
 returns-2 : tie.Need-returns-2
-returns-2 c = set-worked (c .before .before .before .before .before .before .before .before .before .before .before .before .before .before .before .before .before .before .before .before .before .before .before .before .before .before .before .before .before .before .before .before .before .pre) (c .before .before .before .before .before .before .before .before .before .before .before .before .before .before .before .before .before .before .before .before .before .before .before .before .entered .ensures) (c .before .before .before .before .before .before .before .before .before .before .before .before .before .before .before .before .before .before .before .effect-of .ensures) (c .before .before .before .before .before .before .before .before .before .before .before .before .before .before .before .before .before .effect .given .1) (c .before .before .before .before .before .before .before .before .set-right .ensures)
+returns-2 c = set-worked (c .before .before .before .before .before .before .before .before .before .before .before .before .before .before .before .before .before .before .before .before .before .before .before .before .before .before .before .before .before .before .before .before .before .pre) (c .before .before .before .before .before .before .before .before .before .before .before .before .before .before .before .before .before .before .before .before .before .before .before .before .entered .ensures) (c .before .before .before .before .before .before .before .before .before .before .before .before .before .before .before .before .before .before .before .effect-of .ensures) (c .before .before .before .before .before .before .before .before .before .before .before .before .before .before .before .before .before .effect .given .1) (c .before .before .before .before .before .before .before .before .before .before .before .before .before .before .before .aim-of .ensures) (c .before .before .before .before .before .before .before .before .set-right .ensures)
 
 pub work-in-spec : {M : Type 1} → statement M
 work-in-spec =
@@ -114,8 +114,8 @@ work-in-spec =
     mul-rhs
     slice-write-rhs
     slice-write-parent
+    aim-of-requires
     spot-of-requires
-    spot-of-requires-2
     set-right-requires
     same-length-4
     same-length-5

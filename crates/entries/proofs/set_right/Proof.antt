@@ -1,4 +1,3 @@
-use mathlib.Core.Path.{_∙_, sym}
 use native.Mathlib.Omega.{arith}
 use Rattle.entries.proofs.EntryLaws.{cell-placed, goal-placed, key-room, heap-here, right-absent, right-out, right-in}
 use borrow.Author.Needs.{needs}

@@ -1,6 +1,5 @@
 use mathlib.Core.Path.{refl}
 use Rattle.session.proofs.RefusalLaws.{answer-refused, answer-done, open-granted}
-use Rattle.session.proofs.OpenLaws.{open-aimed, opened-by, begun-by}
 use borrow.Author.Needs.{needs}
 use Rattle.session.proofs.open.Statement.{statement}
 use Rattle.session.proofs.open.Tie as tie
@@ -32,13 +31,8 @@ same-length-7 c = search needs
 returns : tie.Need-returns
 returns c = record { number = c .before .open-refusal .result; rules = c .before .open-refusal .ensures; answer = answer-refused _ (c .if1 .taken); refused = λ _. (refl, refl); done = λ z. absurd (c .if1 .taken z) }
 
-spot-of-requires : tie.Need-spot-of-requires
-spot-of-requires c κs = open-granted (c .before .open-refusal .ensures) (c .if1 .left) .obeys .size .wide
-
-fresh-requires : tie.Need-fresh-requires
-fresh-requires c κs =
-    let o = open-granted (c .before .before .before .before .before .before .before .before .before .open-refusal .ensures) (c .before .before .before .before .before .before .before .before .if1 .left) in
-    ((open-aimed o (c .before .before .before .before .before .before .before .spot-of .ensures), refl), o .fits)
+begin-requires : tie.Need-begin-requires
+begin-requires c κs = open-granted (c .before .before .before .before .before .before .before .before .open-refusal .ensures) (c .before .before .before .before .before .before .before .if1 .left)
 
 same-length-8 : tie.Need-same-length-8
 same-length-8 c = search needs
@@ -62,7 +56,10 @@ same-length-14 : tie.Need-same-length-14
 same-length-14 c = search needs
 
 returns-2 : tie.Need-returns-2
-returns-2 c = record { number = c .before .before .before .before .before .before .before .before .before .before .before .before .before .before .before .before .before .before .before .before .before .before .before .before .open-refusal .result; rules = c .before .before .before .before .before .before .before .before .before .before .before .before .before .before .before .before .before .before .before .before .before .before .before .before .open-refusal .ensures; answer = answer-done _ (c .before .before .before .before .before .before .before .before .before .before .before .before .before .before .before .before .before .before .before .before .before .before .before .if1 .left); refused = λ n. absurd (n (c .before .before .before .before .before .before .before .before .before .before .before .before .before .before .before .before .before .before .before .before .before .before .before .if1 .left)); done = λ _. (begun-by (c .before .before .before .before .before .before .before .before .before .before .before .before .before .before .fresh .ensures .1), opened-by refl (c .before .before .before .before .before .before .before .before .before .before .before .before .before .before .fresh .ensures .0) (c .before .before .before .before .before .before .before .before .before .before .before .before .before .before .fresh .ensures .1)) }
+returns-2 c =
+    let r = c .before .before .before .before .before .before .before .before .before .before .before .before .before .before .before .before .before .before .before .before .before .before .before .open-refusal in
+    let z = c .before .before .before .before .before .before .before .before .before .before .before .before .before .before .before .before .before .before .before .before .before .before .if1 .left in
+    record { number = r .result; rules = r .ensures; answer = answer-done _ z; refused = λ n. absurd (n z); done = λ _. c .before .before .before .before .before .before .before .before .before .before .before .before .before .before .begin .ensures }
 
 pub open-spec : {M : Type 1} → statement M
 open-spec =
@@ -77,8 +74,7 @@ open-spec =
     same-length-6
     same-length-7
     returns
-    spot-of-requires
-    fresh-requires
+    begin-requires
     same-length-8
     same-length-9
     same-length-10

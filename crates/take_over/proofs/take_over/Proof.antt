@@ -1,12 +1,12 @@
 use mathlib.Core.Path.{refl}
 use native.Mathlib.Omega.{arith}
-use Rattle.take_over.proofs.TakeOverLaws.{restarting, aiming, handing, taken-late, taken-same, taken-far, taken-new}
+use Rattle.take_over.proofs.TakeOverLaws.{openable, aiming, handing, taken-late, taken-same, taken-far, taken-new}
 use borrow.Author.Needs.{needs}
 use Rattle.take_over.proofs.take_over.Statement.{statement}
 use Rattle.take_over.proofs.take_over.Tie as tie
 
-restart-requires : tie.Need-restart-requires
-restart-requires c κs = restarting (c .before .before .before .before .before .before .before .before .before .before .before .before .before .before .before .before .before .pre)
+begin-requires : tie.Need-begin-requires
+begin-requires c κs = openable (c .before .before .before .before .before .before .before .before .before .before .before .before .before .before .before .before .before .pre)
 
 same-length : tie.Need-same-length
 same-length c = search needs
@@ -30,7 +30,7 @@ same-length-7 : tie.Need-same-length-7
 same-length-7 c = search needs
 
 returns : tie.Need-returns
-returns c = taken-late (c .before .before .before .before .before .before .before .before .before .before .before .before .before .before .before .before .before .before .before .before .before .before .before .before .before .before .before .before .before .before .before .before .pre) (c .before .before .before .before .before .before .before .before .before .before .before .before .before .before .before .before .before .before .before .before .before .before .if1 .taken) (c .before .before .before .before .before .before .before .before .before .before .before .before .before .before .restart .ensures)
+returns c = taken-late (c .before .before .before .before .before .before .before .before .before .before .before .before .before .before .before .before .before .before .before .before .before .before .before .before .before .before .before .before .before .before .before .before .pre) (c .before .before .before .before .before .before .before .before .before .before .before .before .before .before .before .before .before .before .before .before .before .before .if1 .taken) (c .before .before .before .before .before .before .before .before .before .before .before .before .before .before .begin .ensures)
 
 target-taken-requires : tie.Need-target-taken-requires
 target-taken-requires c κs = aiming (c .before .before .before .before .before .before .before .before .before .before .pre)
@@ -44,8 +44,8 @@ mul-if3 c = search needs
 slice-read-if3 : tie.Need-slice-read-if3
 slice-read-if3 c = let S = c .before .before .before .before .before .before .before .before .before .before .before .before .before .before .pre in omega (arith, S .numbers .hunter-in, S .numbers .sized .rhs)
 
-restart-requires-2 : tie.Need-restart-requires-2
-restart-requires-2 c κs = restarting (c .before .before .before .before .before .before .before .before .before .before .before .before .before .before .before .before .before .before .before .before .before .before .pre)
+begin-requires-2 : tie.Need-begin-requires-2
+begin-requires-2 c κs = openable (c .before .before .before .before .before .before .before .before .before .before .before .before .before .before .before .before .before .before .before .before .before .before .pre)
 
 same-length-8 : tie.Need-same-length-8
 same-length-8 c = search needs
@@ -69,7 +69,7 @@ same-length-14 : tie.Need-same-length-14
 same-length-14 c = search needs
 
 returns-3 : tie.Need-returns-3
-returns-3 c = taken-far (c .before .before .before .before .before .before .before .before .before .before .before .before .before .before .before .before .before .before .before .before .before .before .before .before .before .before .before .before .before .before .before .before .before .before .before .before .before .pre) (c .before .before .before .before .before .before .before .before .before .before .before .before .before .before .before .before .before .before .before .before .before .before .before .before .before .before .before .if1 .left) (c .before .before .before .before .before .before .before .before .before .before .before .before .before .before .before .before .before .before .before .before .before .before .before .before .if2 .left) (c .before .before .before .before .before .before .before .before .before .before .before .before .before .before .before .before .before .before .before .before .before .before .if3 .taken) (c .before .before .before .before .before .before .before .before .before .before .before .before .before .before .restart2 .ensures)
+returns-3 c = taken-far (c .before .before .before .before .before .before .before .before .before .before .before .before .before .before .before .before .before .before .before .before .before .before .before .before .before .before .before .before .before .before .before .before .before .before .before .before .before .pre) (c .before .before .before .before .before .before .before .before .before .before .before .before .before .before .before .before .before .before .before .before .before .before .before .before .before .before .before .if1 .left) (c .before .before .before .before .before .before .before .before .before .before .before .before .before .before .before .before .before .before .before .before .before .before .before .before .if2 .left) (c .before .before .before .before .before .before .before .before .before .before .before .before .before .before .before .before .before .before .before .before .before .before .if3 .taken) (c .before .before .before .before .before .before .before .before .before .before .before .before .before .before .begin2 .ensures)
 
 hand-over-requires : tie.Need-hand-over-requires
 hand-over-requires c κs = handing (c .before .before .before .before .before .before .before .before .before .before .before .before .before .before .before .before .before .before .before .before .before .before .pre) (c .before .before .before .before .before .before .before .before .before .before .before .target-taken .ensures)
@@ -102,7 +102,7 @@ pub take-over-spec : {M : Type 1} → statement M
 take-over-spec =
     tie.close
     (tie.spec
-    restart-requires
+    begin-requires
     same-length
     same-length-2
     same-length-3
@@ -115,7 +115,7 @@ take-over-spec =
     returns-2
     mul-if3
     slice-read-if3
-    restart-requires-2
+    begin-requires-2
     same-length-8
     same-length-9
     same-length-10
