@@ -6,18 +6,11 @@ use search;
 use session;
 use tables;
 
-// The state of the generator.
-struct Luck {
-    x: usize,
-    y: usize,
-    z: usize,
-}
+mod digest;
+mod luck;
 
-// The two numbers of the digest.
-struct Digest {
-    a: usize,
-    b: usize,
-}
+use digest::Digest;
+use luck::Luck;
 
 // An answer as numbers: its kind, the refusal's number, the cost, the steps, the cells of the way.
 struct Told {
@@ -71,73 +64,6 @@ struct Drawn {
     luck: Luck,
 }
 
-// The generator's next state.
-fn next(l: Luck) -> Luck {
-    Luck {
-        x: l.x % 30269 * 171 % 30269,
-        y: l.y % 30307 * 172 % 30307,
-        z: l.z % 30323 * 170 % 30323,
-    }
-}
-
-// The number that a state stands for.
-fn value(l: Luck) -> usize {
-    (l.x % 30269 * 32768 + l.y % 30307 * 181 + l.z % 30323) % 1000003
-}
-
-// The number of a state, brought below n.
-fn below(l: Luck, n: usize) -> usize {
-    if n == 0 {
-        return 0;
-    }
-    value(l) % n
-}
-
-// The number of a state, brought to n or below, for n below 65,536.
-fn up_to(l: Luck, n: usize) -> usize {
-    value(l) % (n % 65536 + 1)
-}
-
-// The generator of a session: seed 4, and twenty numbers thrown away.
-fn start(session: usize) -> Luck {
-    let j = session % 1000003;
-    let mut l = Luck {
-        x: (j * 17 + 125) % 30268 + 1,
-        y: (j * 59 + 411) % 30306 + 1,
-        z: (j * 131 + 857) % 30322 + 1,
-    };
-    let mut i = 0usize;
-    while i < 20 {
-        l = next(l);
-        i += 1;
-    }
-    l
-}
-
-// The digest with one number more.
-fn fold(d: Digest, v: usize) -> Digest {
-    let w = v % 1000003;
-    Digest {
-        a: (d.a % 1000003 * 4093 + w) % 1000003,
-        b: (d.b % 1000003 * 3571 + w) % 1000003,
-    }
-}
-
-// A byte as a number.
-fn of_byte(x: u8) -> usize {
-    x as usize
-}
-
-// A 32-bit entry as a number.
-fn wide(x: u32) -> usize {
-    x as usize
-}
-
-// A 16-bit entry as a number.
-fn cell_of(x: u16) -> usize {
-    x as usize
-}
-
 // A number as a byte.
 fn to_byte(x: usize) -> u8 {
     (x % 256) as u8
@@ -150,85 +76,13 @@ fn to_wide(x: usize) -> u32 {
 
 // The digest with an answer.
 fn fold_told(d: Digest, t: Told) -> Digest {
-    fold(
-        fold(fold(fold(fold(d, t.kind), t.number), t.cost), t.steps),
+    digest::fold(
+        digest::fold(
+            digest::fold(digest::fold(digest::fold(d, t.kind), t.number), t.cost),
+            t.steps,
+        ),
         t.length,
     )
-}
-
-// The digest with a record.
-fn fold_session(d: Digest, s: tables::Session) -> Digest {
-    let placed = fold(fold(fold(fold(d, s.width), s.height), s.hunter), s.target);
-    let taken = fold(fold(fold(placed, s.origin), s.goal), wide(s.km));
-    fold(fold(taken, s.count), wide(s.searches))
-}
-
-// The digest with the plan of so many cells.
-fn fold_plan(d: Digest, t: [u8; 1280], cells: usize) -> Digest {
-    let many = cells % 321 * 4;
-    let mut seen = d;
-    let mut i = 0;
-    while i < many {
-        seen = fold(seen, of_byte(t[i]));
-        i += 1;
-    }
-    seen
-}
-
-// The digest with a table of bytes.
-fn fold_bytes(d: Digest, t: [u8; 320], cells: usize) -> Digest {
-    let many = cells % 321;
-    let mut seen = d;
-    let mut i = 0;
-    while i < many {
-        seen = fold(seen, of_byte(t[i]));
-        i += 1;
-    }
-    seen
-}
-
-// The digest with a table of 32-bit numbers.
-fn fold_wide(d: Digest, t: [u32; 320], cells: usize) -> Digest {
-    let many = cells % 321;
-    let mut seen = d;
-    let mut i = 0;
-    while i < many {
-        seen = fold(seen, wide(t[i]));
-        i += 1;
-    }
-    seen
-}
-
-// The digest with a table of 16-bit numbers.
-fn fold_cells(d: Digest, t: [u16; 320], cells: usize) -> Digest {
-    let many = cells % 321;
-    let mut seen = d;
-    let mut i = 0;
-    while i < many {
-        seen = fold(seen, cell_of(t[i]));
-        i += 1;
-    }
-    seen
-}
-
-// 1 for the place of a queued cell, else 0.
-fn is_queued(place: u16) -> usize {
-    if place == 65535 {
-        return 0;
-    }
-    1
-}
-
-// The digest with whether each cell is queued.
-fn fold_queued(d: Digest, place: [u16; 320], cells: usize) -> Digest {
-    let many = cells % 321;
-    let mut seen = d;
-    let mut i = 0;
-    while i < many {
-        seen = fold(seen, is_queued(place[i]));
-        i += 1;
-    }
-    seen
 }
 
 // The digest with all tables and the way list.
@@ -242,14 +96,22 @@ fn fold_tables(d: Digest, p: Player) -> Digest {
     let k2 = p.k2;
     let place = p.place;
     let way = p.way;
-    let first = fold_wide(fold_wide(fold_plan(d, plan, n), g, n), rhs, n);
-    let second = fold_wide(fold_wide(fold_bytes(first, parent, n), k1, n), k2, n);
-    fold_cells(fold_queued(second, place, n), way, n)
+    let first = digest::fold_wide(
+        digest::fold_wide(digest::fold_plan(d, plan, n), g, n),
+        rhs,
+        n,
+    );
+    let second = digest::fold_wide(
+        digest::fold_wide(digest::fold_bytes(first, parent, n), k1, n),
+        k2,
+        n,
+    );
+    digest::fold_cells(digest::fold_queued(second, place, n), way, n)
 }
 
 // The player after a call that was answered so: counted, and folded with the record, the tables and the way list.
 fn note(p: Player, t: Told) -> Player {
-    let digest = fold_tables(fold_session(fold_told(p.digest, t), p.session), p);
+    let digest = fold_tables(digest::fold_session(fold_told(p.digest, t), p.session), p);
     let mut q = p;
     q.digest = digest;
     q.calls = p.calls % 1000000000 + 1;
@@ -286,7 +148,7 @@ fn told_of(a: session::Answer) -> Told {
     };
     Told {
         kind: 4,
-        number: of_byte(number),
+        number: digest::of_byte(number),
         cost: 0,
         steps: 0,
         length: 0,
@@ -313,13 +175,13 @@ fn found_of(a: answer::Answer) -> Told {
         answer::Answer::Way(cost, steps, length) => Told {
             kind: 1,
             number: 0,
-            cost: wide(cost),
+            cost: digest::wide(cost),
             steps,
             length,
         },
         answer::Answer::Refused(number) => Told {
             kind: 4,
-            number: of_byte(number),
+            number: digest::of_byte(number),
             cost: 0,
             steps: 0,
             length: 0,
@@ -369,20 +231,20 @@ fn seek(p: Player) -> Player {
 
 // A drawn change of a move. Its cost is any byte, or (fit) 255 or 1 to 9.
 fn drawn_change(l: Luck, cells: usize, fit: bool) -> Wish {
-    let first = next(l);
-    let second = next(first);
-    let third = next(second);
-    let cell = up_to(first, cells);
-    let direction = below(second, 5);
+    let first = luck::next(l);
+    let second = luck::next(first);
+    let third = luck::next(second);
+    let cell = luck::up_to(first, cells);
+    let direction = luck::below(second, 5);
     if !fit {
         return Wish {
             cell,
             direction,
-            cost: to_byte(value(third)),
+            cost: to_byte(luck::value(third)),
             luck: third,
         };
     }
-    if below(third, 2) == 0 {
+    if luck::below(third, 2) == 0 {
         return Wish {
             cell,
             direction,
@@ -390,11 +252,11 @@ fn drawn_change(l: Luck, cells: usize, fit: bool) -> Wish {
             luck: third,
         };
     }
-    let fourth = next(third);
+    let fourth = luck::next(third);
     Wish {
         cell,
         direction,
-        cost: to_byte(value(fourth) % 9 + 1),
+        cost: to_byte(luck::value(fourth) % 9 + 1),
         luck: fourth,
     }
 }
@@ -450,13 +312,13 @@ fn hunter_cell(p: Player, drawn: usize) -> usize {
     if p.length < 2 {
         return p.cells;
     }
-    cell_of(p.way[1])
+    digest::cell_of(p.way[1])
 }
 
 // Places the hunter.
 fn put_hunter(p: Player) -> Player {
-    let l = next(p.luck);
-    let r = session::place_hunter(p.session, hunter_cell(p, up_to(l, p.cells)));
+    let l = luck::next(p.luck);
+    let r = session::place_hunter(p.session, hunter_cell(p, luck::up_to(l, p.cells)));
     let s = r.session;
     let a = r.answer;
     note(with_luck(with_session(p, s), l), told_of(a))
@@ -464,8 +326,8 @@ fn put_hunter(p: Player) -> Player {
 
 // Places the target.
 fn put_target(p: Player) -> Player {
-    let l = next(p.luck);
-    let r = session::place_target(p.session, up_to(l, p.cells));
+    let l = luck::next(p.luck);
+    let r = session::place_target(p.session, luck::up_to(l, p.cells));
     let s = r.session;
     let a = r.answer;
     note(with_luck(with_session(p, s), l), told_of(a))
@@ -476,12 +338,12 @@ fn peek(p: Player, table: usize, at: usize) -> usize {
     let i = at % 320;
     let j = at % 1280;
     match table {
-        0 => wide(p.g[i]),
-        1 => wide(p.rhs[i]),
-        2 => of_byte(p.parent[i]),
-        3 => wide(p.k1[i]),
-        4 => wide(p.k2[i]),
-        _ => of_byte(p.plan[j]),
+        0 => digest::wide(p.g[i]),
+        1 => digest::wide(p.rhs[i]),
+        2 => digest::of_byte(p.parent[i]),
+        3 => digest::wide(p.k1[i]),
+        4 => digest::wide(p.k2[i]),
+        _ => digest::of_byte(p.plan[j]),
     }
 }
 
@@ -520,12 +382,12 @@ fn room_of(table: usize, cells: usize) -> usize {
 
 // Spoils a drawn entry and searches. If that is refused, the entry gets its old value back.
 fn spoil(p: Player) -> Player {
-    let first = next(p.luck);
-    let second = next(first);
-    let third = next(second);
-    let table = below(first, 6);
-    let at = below(second, room_of(table, p.cells));
-    let v = below(third, range_of(table));
+    let first = luck::next(p.luck);
+    let second = luck::next(first);
+    let third = luck::next(second);
+    let table = luck::below(first, 6);
+    let at = luck::below(second, room_of(table, p.cells));
+    let v = luck::below(third, range_of(table));
     let q = seek(with_luck(poked(p, table, at, v), third));
     if q.kind != 4 {
         return q;
@@ -535,8 +397,8 @@ fn spoil(p: Player) -> Player {
 
 // One drawn action.
 fn act(p: Player) -> Player {
-    let l = next(p.luck);
-    let w = below(l, 8);
+    let l = luck::next(p.luck);
+    let w = luck::below(l, 8);
     let q = with_luck(p, l);
     if w < 4 {
         return change_drawn(q, w == 3);
@@ -583,16 +445,16 @@ fn drawn_byte(l: Luck, width: usize, height: usize, i: usize) -> Byte {
     if leaves(width, height, i) {
         return Byte { cost: 255, luck: l };
     }
-    let first = next(l);
-    if below(first, 100) < 20 {
+    let first = luck::next(l);
+    if luck::below(first, 100) < 20 {
         return Byte {
             cost: 255,
             luck: first,
         };
     }
-    let second = next(first);
+    let second = luck::next(first);
     Byte {
-        cost: to_byte(value(second) % 9 + 1),
+        cost: to_byte(luck::value(second) % 9 + 1),
         luck: second,
     }
 }
@@ -616,9 +478,9 @@ fn drawn_plan(l: Luck, width: usize, height: usize, cells: usize) -> Drawn {
 fn begin(number: usize, width: usize, height: usize, cells: usize, walks: bool) -> Player {
     let n = cells % 321;
     let m = n * 4;
-    let d = drawn_plan(start(number), width, height, n);
-    let first = next(d.luck);
-    let luck = next(first);
+    let d = drawn_plan(luck::start(number), width, height, n);
+    let first = luck::next(d.luck);
+    let luck = luck::next(first);
     let plan = d.plan;
     let mut g = [7u32; 320];
     let mut rhs = [7u32; 320];
@@ -631,8 +493,8 @@ fn begin(number: usize, width: usize, height: usize, cells: usize, walks: bool) 
     let r = session::open(
         width,
         height,
-        below(first, n),
-        below(luck, n),
+        luck::below(first, n),
+        luck::below(luck, n),
         &plan[0..m],
         &mut g[0..n],
         &mut rhs[0..n],

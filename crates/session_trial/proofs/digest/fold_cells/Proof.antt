@@ -1,8 +1,8 @@
 -- The measure is what is left of the table.
 use Prim.Native.Nat.{_-_, _≤_}
 use borrow.Author.Needs.{needs}
-use Rattle.session_trial.proofs.fold_cells.Statement.{statement}
-use Rattle.session_trial.proofs.fold_cells.Tie as tie
+use Rattle.session_trial.proofs.digest.fold_cells.Statement.{statement}
+use Rattle.session_trial.proofs.digest.fold_cells.Tie as tie
 
 abbrev Inv-loop : tie.InvT-loop
 Inv-loop cells t many seen₀ i₀ seen i = i ≤ many

@@ -3,8 +3,8 @@ use Prim.Native.Nat.{_-_, _≤_}
 use mathlib.Core.Path.{_≡_, refl}
 use native.Mathlib.Omega.{arith}
 use borrow.Author.Needs.{needs}
-use Rattle.session_trial.proofs.start.Statement.{statement}
-use Rattle.session_trial.proofs.start.Tie as tie
+use Rattle.session_trial.proofs.luck.start.Statement.{statement}
+use Rattle.session_trial.proofs.luck.start.Tie as tie
 
 abbrev Inv-loop : tie.InvT-loop
 Inv-loop session j l₀ i₀ l i = i ≤ 20
