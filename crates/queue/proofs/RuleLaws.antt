@@ -1,8 +1,8 @@
 -- The tables hold a true heap exactly if every place of the list and every cell obeys its rule.
-use mathlib.Core.Path.{_≡_, refl, sym, ap, _∙_}
+use mathlib.Core.Path.{_≡_, sym, ap, _∙_}
 use mathlib.Core.Bool.{Bool, true, false, not}
 use mathlib.Core.List.{List}
-use Prim.Native.Nat.{ℕ, _+_, _-_, _/_, _≤_, _<_}
+use Prim.Native.Nat.{ℕ, _-_, _/_, _≤_, _<_}
 use native.Mathlib.Omega.{arith}
 use lib.Dec.{eqb}
 use lib.ListN.{getD, length}
@@ -10,8 +10,8 @@ use borrow.Author.Tests.{not-true}
 use Rattle.decide.specs.Decides.{Decides}
 use Rattle.decide.proofs.DecideLaws.{decides-yes, decides-no, decides-eq}
 use Rattle.queue.specs.Order.{before}
-use Rattle.queue.specs.Queue.{absent, most, Agree, Under, Heap}
-use Rattle.queue.specs.Rules.{Above, EntryRule, CellRule, Lengths}
+use Rattle.queue.specs.Queue.{absent, most, Agree, Heap}
+use Rattle.queue.specs.Rules.{EntryRule, CellRule, Lengths}
 use Rattle.queue.proofs.HeapLaws.{above, above-inside}
 
 module _ {width room count : ℕ} {k1 k2 place list : List ℕ} where
@@ -64,25 +64,6 @@ module _ {width room count : ℕ} {k1 k2 place list : List ℕ} where
         a = h .tables .agree
 
 -- ---- the rules as the code tests them, return by return
-
-module _ {count : ℕ} {k1 k2 place list : List ℕ} {c i : ℕ} (e : i ≡ getD place c 0) where
-  pub cell-queued : {x : ℕ} → i < count → x ≡ getD list i 0 → Decides (eqb x c) (CellRule count k1 k2 place list c)
-  cell-queued {x} l f =
-      decides-eq x c
-      (λ q. record { queued = λ _. rw (← e) (sym f ∙ q); gone = λ g. absurd (omega arith) })
-      (λ R. f ∙ rw (← e) at (R .queued (omega arith)))
-
-  pub cell-astray : count ≤ i → (i ≡ absent → ⊥) → Decides false (CellRule count k1 k2 place list c)
-  cell-astray g n = decides-no (λ R. n (e ∙ R .gone (omega arith) .0))
-
-  pub cell-keyed : count ≤ i → (getD k1 c 0 ≡ 0 → ⊥) → Decides false (CellRule count k1 k2 place list c)
-  cell-keyed g n = decides-no (λ R. n (R .gone (omega arith) .1))
-
-  pub cell-gone : count ≤ i → i ≡ absent → getD k1 c 0 ≡ 0 → Decides (eqb (getD k2 c 0) 0) (CellRule count k1 k2 place list c)
-  cell-gone g a z =
-      decides-eq _ _
-      (λ q. record { queued = λ l. absurd (omega arith); gone = λ _. (sym e ∙ a, z, q) })
-      (λ R. R .gone (omega arith) .2)
 
 used-so : (room : ℕ) (place list : List ℕ) (i c at : ℕ) → c ≡ getD list i 0 → at ≡ getD place c 0 → c < room → at ≡ i → (getD list i 0 < room) × (getD place (getD list i 0) 0 ≡ i)
 used-so room place list i c at e f w z = (rw (← e) w, rw (← e) (sym f ∙ z))

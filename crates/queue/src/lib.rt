@@ -7,7 +7,7 @@ ghost use lib.ListN.{length, getD};
 ghost use Rattle.decide.specs.Decides.{Decides};
 ghost use Rattle.queue.specs.Order.{before, tied};
 ghost use Rattle.queue.specs.Queue.{absent, members, Tables, Ordered, Heap, Changed, LeastOf};
-ghost use Rattle.queue.specs.Rules.{EntryRule, CellRule, Lengths};
+ghost use Rattle.queue.specs.Rules.{EntryRule, Lengths};
 ghost use Rattle.queue.specs.Sift.{Loose, Low, placeAfter, listAfter, Keyed, Compares, Lesser};
 
 // The place of a cell that is not queued, and the content of an unused place of the list.
@@ -291,29 +291,28 @@ pub fn entry_holds(
     !cell_before(width, k1, k2, c, d)
 }
 
-// Does cell c obey the rules of a true heap?
-pub fn cell_holds(
-    k1: &[u32],
-    k2: &[u32],
-    place: &[u16],
-    list: &[u16],
-    count: usize,
-    c: usize,
-) -> bool
-    requires { ⌜ count ≤ length (now list) ⌝ }
-    requires { ⌜ Lengths (length (now list)) (now k1) (now k2) (now place) (now list) ⌝ }
-    requires { ⌜ c < length (now list) ⌝ }
-    ensures { λ r. ⌜ Decides r (CellRule count (now (k1 .entry)) (now (k2 .entry)) (now (place .entry)) (now (list .entry)) c) ⌝ }
+// Is cell c absent from the queue, and are both its key numbers 0?
+pub fn absent_holds(k1: &[u32], k2: &[u32], place: &[u16], c: usize) -> bool
+    requires { ⌜ (c < length (now k1)) × (c < length (now k2)) × (c < length (now place)) ⌝ }
+    ensures { λ r. ⌜ Decides r ((getD (now (place .entry)) c 0 ≡ absent) × (getD (now (k1 .entry)) c 0 ≡ 0) × (getD (now (k2 .entry)) c 0 ≡ 0)) ⌝ }
 {
-    let i = wide(place[c]);
-    if i < count {
-        return wide(list[i]) == c;
-    }
-    if i != 65535 {
+    if place[c] != ABSENT {
         return false;
     }
     if k1[c] != 0 {
         return false;
     }
     k2[c] == 0
+}
+
+// Has cell c a used place of the list, and is it named there?
+pub fn queued_holds(place: &[u16], list: &[u16], count: usize, c: usize) -> bool
+    requires { ⌜ (c < length (now place)) × (count ≤ length (now list)) ⌝ }
+    ensures { λ r. ⌜ Decides r ((getD (now (place .entry)) c 0 < count) × (getD (now (list .entry)) (getD (now (place .entry)) c 0) 0 ≡ c)) ⌝ }
+{
+    let i = wide(place[c]);
+    if count <= i {
+        return false;
+    }
+    wide(list[i]) == c
 }

@@ -60,6 +60,12 @@ pub record KeyRule (at a b g r e km : ℕ) : Type 0 where
   pub idle : g ≡ r → at ≡ absent
   pub queued : g ≢ r → (at ≢ absent) × NotAbove a b (min g r + e + km) (min g r)
 
+-- Cell u, whose g is x and rhs y, as it is queued where they differ: named at its place, under a key not above the calculated one.
+pub record WaitingRule (s : Session) (k1 k2 place list : List ℕ) (x y u : ℕ) : Type 0 where
+  pub used : getD place u 0 < s .count
+  pub named : getD list (getD place u 0) 0 ≡ u
+  pub key : NotAbove (getD k1 u 0) (getD k2 u 0) (min x y + estimate (s .width) u (s .goal) + s .km) (min x y)
+
 -- The rules of cell u by itself.
 pub record ValueRule (s : Session) (g rhs parent k1 k2 place : List ℕ) (u : ℕ) : Type 0 where
   pub own : OwnRule (most s) (s .origin) u (getD g u 0) (getD rhs u 0) (getD parent u 0)

@@ -13,7 +13,7 @@ ghost use Rattle.plan.specs.Costs.{planOf};
 ghost use Rattle.plan.specs.Reached.{At};
 ghost use Rattle.tables.specs.Lent.{cells, given, before, Fits};
 ghost use Rattle.tables.specs.Sound.{Sound};
-ghost use Rattle.tables.specs.Rules.{Numbers, SumRule, MoveRule, WayRule, OwnRule, KeyRule, ValueRule, AloneRule};
+ghost use Rattle.tables.specs.Rules.{Numbers, SumRule, MoveRule, WayRule, OwnRule, NotAbove, WaitingRule, AloneRule};
 
 // The session record: the plan's size, hunter and target as placed, those of the last search taken over (origin and goal), km, the queue's count, and the number of searches since the last fresh start.
 #[repr(C)]
@@ -201,17 +201,11 @@ fn lesser(g: u32, rhs: u32) -> u32
     rhs
 }
 
-// Is a cell queued exactly if g and rhs differ, under a stored key (a, b) not above the calculated one?
-fn key_holds(at: u16, a: u32, b: u32, g: u32, r: u32, e: usize, km: u32) -> bool
+// Is the stored key (a, b) not above the calculated one? e is the estimate to the target.
+fn key_holds(a: u32, b: u32, g: u32, r: u32, e: usize, km: u32) -> bool
     requires { ⌜ e ≤ 126 ⌝ }
-    ensures { λ x. ⌜ Decides x (KeyRule at a b g r e km) ⌝ }
+    ensures { λ x. ⌜ Decides x (NotAbove a b (min g r + e + km) (min g r)) ⌝ }
 {
-    if g == r {
-        return at == 65535;
-    }
-    if at == 65535 {
-        return false;
-    }
     let m = lesser(g, r);
     let first = m as usize + e + km as usize;
     let stored = a as usize;
@@ -221,40 +215,34 @@ fn key_holds(at: u16, a: u32, b: u32, g: u32, r: u32, e: usize, km: u32) -> bool
     b <= m
 }
 
-// Does cell u, which stands at `at`, obey its own rules? The search's target stands at `aim`.
-fn value_holds(
+// Is cell u, whose g x and rhs y differ, queued under a stored key that is not above the calculated one? It stands at `at`, the search's target at `aim`.
+fn waiting_holds(
     s: Session,
-    g: &[u32],
-    rhs: &[u32],
-    parent: &[u8],
     k1: &[u32],
     k2: &[u32],
     place: &[u16],
+    list: &[u16],
+    x: u32,
+    y: u32,
     u: usize,
     at: Spot,
     aim: Spot,
 ) -> bool
     requires { ⌜ Size (s .width) (s .height) × Numbers s ⌝ }
-    requires { ⌜ (length (now g) ≡ cells s) × (length (now rhs) ≡ cells s) × (length (now parent) ≡ cells s) ⌝ }
-    requires { ⌜ (length (now k1) ≡ cells s) × (length (now k2) ≡ cells s) × (length (now place) ≡ cells s) ⌝ }
+    requires { ⌜ Lengths (cells s) (now k1) (now k2) (now place) (now list) ⌝ }
     requires { ⌜ (At (s .width) u at) × (At (s .width) (s .goal) aim) × (u < cells s) ⌝ }
-    ensures { λ a. ⌜ Decides a (ValueRule s (now (g .entry)) (now (rhs .entry)) (now (parent .entry)) (now (k1 .entry)) (now (k2 .entry)) (now (place .entry)) u) ⌝ }
+    ensures { λ a. ⌜ Decides a (WaitingRule s (now (k1 .entry)) (now (k2 .entry)) (now (place .entry)) (now (list .entry)) x y u) ⌝ }
 {
-    let x = g[u];
-    let y = rhs[u];
-    let p = parent[u];
-    let a = k1[u];
-    let b = k2[u];
-    let i = place[u];
-    let bound = 1024250 * s.searches;
-    if !own_holds(bound, s.origin, u, x, y, p) {
+    if !queue::queued_holds(place, list, s.count, u) {
         return false;
     }
+    let a = k1[u];
+    let b = k2[u];
     let e = plan::estimate(at, aim);
-    key_holds(i, a, b, x, y, e, s.km)
+    key_holds(a, b, x, y, e, s.km)
 }
 
-// Does it obey the queue's rules too, and does place u of the list?
+// Does cell u, which stands at `at`, obey its own rules and the queue's, and does place u of the list? It is queued, and has a key to compare, exactly if g and rhs differ.
 fn alone_holds(
     s: Session,
     g: &[u32],
@@ -277,10 +265,17 @@ fn alone_holds(
     if !queue::entry_holds(s.width, k1, k2, place, list, s.count, u) {
         return false;
     }
-    if !queue::cell_holds(k1, k2, place, list, s.count, u) {
+    let x = g[u];
+    let y = rhs[u];
+    let p = parent[u];
+    let bound = 1024250 * s.searches;
+    if !own_holds(bound, s.origin, u, x, y, p) {
         return false;
     }
-    value_holds(s, g, rhs, parent, k1, k2, place, u, at, aim)
+    if x == y {
+        return queue::absent_holds(k1, k2, place, u);
+    }
+    waiting_holds(s, k1, k2, place, list, x, y, u, at, aim)
 }
 
 // Are the tables sound? One walk over cells and directions, left at the first at fault; row and column are carried along.
