@@ -118,42 +118,35 @@ impl Cut<'_> {
         d < self.list.len() && (self.k1[c], self.k2[c], c) >= (self.k1[d], self.k2[d], d)
     }
 
-    /// Does cell c obey the rules of a true heap?
-    #[inline(always)]
-    fn cell_holds(self, count: usize, c: usize) -> bool {
-        let i = self.place[c] as usize;
-        if i < count {
-            return self.list[i] as usize == c;
-        }
-        i == ABSENT as usize && self.k1[c] == 0 && self.k2[c] == 0
-    }
-
     /// Do a cell's own numbers obey their rules?
     #[inline(always)]
-    fn value_holds(self, bound: u32, origin: usize, estimate: u32, km: u32, u: usize) -> bool {
-        let (g, rhs, parent) = (self.g[u], self.rhs[u], self.parent[u]);
+    fn own_holds(bound: u32, origin: usize, u: usize, g: u32, rhs: u32, parent: u8) -> bool {
         if g > bound && g != INFINITE {
             return false;
         }
-        let own = if u == origin {
+        if u == origin {
             rhs <= bound && parent == 0
         } else if parent == 0 {
             rhs == INFINITE
         } else {
             parent <= 4 && rhs != INFINITE
-        };
-        if !own {
+        }
+    }
+
+    /// Is cell u absent?
+    #[inline(always)]
+    fn absent_holds(self, u: usize) -> bool {
+        self.place[u] == ABSENT && self.k1[u] == 0 && self.k2[u] == 0
+    }
+
+    /// Is cell u queued, under a key not above the calculated one, where m is the lesser of its g and rhs?
+    #[inline(always)]
+    fn waiting_holds(self, count: usize, m: u32, at: Spot, aim: Spot, km: u32, u: usize) -> bool {
+        let i = self.place[u] as usize;
+        if i >= count || self.list[i] as usize != u {
             return false;
         }
-        let place = self.place[u];
-        if g == rhs {
-            return place == ABSENT;
-        }
-        if place == ABSENT {
-            return false;
-        }
-        let m = g.min(rhs);
-        let first = m as u64 + estimate as u64 + km as u64;
+        let first = m as u64 + estimate(at, aim) as u64 + km as u64;
         let stored = self.k1[u] as u64;
         if stored != first {
             return stored < first;
@@ -399,13 +392,21 @@ impl Session {
         let bound = GREATEST_GROWTH * self.searches;
         let mut at = Spot { row: 0, column: 0 };
         for u in 0..cells {
-            if !tables.entry_holds(self.count, u) || !tables.cell_holds(self.count, u) {
+            if !tables.entry_holds(self.count, u) {
                 return false;
             }
-            if !tables.value_holds(bound, self.origin, estimate(at, self.aim), self.km, u) {
+            let (x, y) = (tables.g[u], tables.rhs[u]);
+            if !Cut::own_holds(bound, self.origin, u, x, y, tables.parent[u]) {
                 return false;
             }
-            let x = tables.g[u];
+            let holds = if x == y {
+                tables.absent_holds(u)
+            } else {
+                tables.waiting_holds(self.count, x.min(y), at, self.aim, self.km, u)
+            };
+            if !holds {
+                return false;
+            }
             for d in 0..4 {
                 if !tables.way_holds(self.origin, x, u, at, d) {
                     return false;
