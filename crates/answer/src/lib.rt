@@ -1,7 +1,7 @@
 // What a search answers: caught, none, or the way, whose cells from parent to parent are written hunter first into a lent list.
-use entries;
 use entries::Aim;
 use plan;
+use tables;
 ghost use mathlib.Core.Path.{_≡_};
 ghost use Rattle.answer.specs.Way.{parentOf, Linked, Followed, Leading, Counts, Shows};
 ghost use Rattle.answer.specs.Answer.{Answering, Answers};
@@ -70,7 +70,7 @@ pub fn answered(
     }
     let t = a.target;
     let far = rhs[t];
-    if far == entries::INFINITE {
+    if far == tables::INFINITE {
         return Answer::NoWay(steps);
     }
     let h = a.hunter;

@@ -1,6 +1,6 @@
 -- What a changed move asks of the cell that it enters, and what working it in leaves.
 use mathlib.Core.Path.{_≡_, refl, sym, ap, subst, _∙_}
-use mathlib.Core.Logic.{_⊎_, inl, inr, ⊎-elim, _≢_}
+use mathlib.Core.Logic.{_⊎_, inl, inr, _≢_}
 use mathlib.Core.List.{List}
 use Prim.Native.Nat.{ℕ, _+_, _*_, _≤_, _<_}
 use native.Mathlib.Omega.{arith}
@@ -22,41 +22,15 @@ use Rattle.plan.proofs.ChangeLaws.{changed-obeys}
 use Rattle.tables.specs.declared.Session.{Session}
 use Rattle.tables.specs.Lent.{Tables, tables, cells, floor, graph, core}
 use Rattle.entries.specs.declared.Aim.{Aim}
-use Rattle.entries.specs.declared.Found.{Found}
 use Rattle.entries.specs.Aims.{AimOf, mostG, mostRhs}
-use Rattle.entries.specs.Became.{Entering, Entered, foundOf}
+use Rattle.entries.specs.Became.{Entering, Entered}
 use Rattle.entries.proofs.SmallLaws.{sound-small-g, sound-small-rhs, sound-held}
 use Rattle.entries.proofs.FoundLaws.{entering, held-rhs, small-rhs, anew-small}
-use Rattle.change.specs.declared.Effect.{Effect}
-use Rattle.change.specs.declared.Effect.the-variants.{Keeps, To}
+use Rattle.choices.specs.declared.Effect.{Effect}
+use Rattle.choices.specs.declared.Effect.the-variants.{Keeps, To}
 use Rattle.change.specs.Refusals.{Workable}
-use Rattle.change.specs.Promise.{Touches, withPlan, replanned, enteredCell, backCode, oldCost, methodChange, WorkedIn}
-use Rattle.change.specs.Effects.{Deciding, Asked, keeps, falls, rises}
-
--- ---- the decision, return by return
-
-module _ {s : Session} {plan g rhs parent : List ℕ} {v k u old new : ℕ} where
-  pub asked-own : v ≡ s .origin → Asked s plan g rhs parent v k u old new Keeps
-  asked-own e = keeps (λ t. t .0 e)
-
-  pub asked-falls : {sum : ℕ} → v ≢ s .origin → new < old → sum ≡ getD g u 0 + new → sum < getD rhs v 0 → Asked s plan g rhs parent v k u old new (To sum k)
-  asked-falls n f e l = rw e (falls n f (omega arith))
-
-  pub asked-high : {sum : ℕ} → new < old → sum ≡ getD g u 0 + new → getD rhs v 0 ≤ sum → Asked s plan g rhs parent v k u old new Keeps
-  asked-high f e l =
-      keeps (λ t. ⊎-elim (λ (h : (new < old) × (getD g u 0 + new < getD rhs v 0)). omega (arith, h .1)) (λ (h : (old < new) × (getD parent v 0 ≡ k)). omega (arith, h .0)) (t .1))
-
-  pub asked-level : new ≡ old → Asked s plan g rhs parent v k u old new Keeps
-  asked-level e =
-      keeps (λ t. ⊎-elim (λ (h : (new < old) × (getD g u 0 + new < getD rhs v 0)). omega (arith, h .0)) (λ (h : (old < new) × (getD parent v 0 ≡ k)). omega (arith, h .0)) (t .1))
-
-  pub asked-other : old ≤ new → getD parent v 0 ≢ k → Asked s plan g rhs parent v k u old new Keeps
-  asked-other f n =
-      keeps (λ t. ⊎-elim (λ (h : (new < old) × (getD g u 0 + new < getD rhs v 0)). omega (arith, h .0)) (λ (h : (old < new) × (getD parent v 0 ≡ k)). n (h .1)) (t .1))
-
-  pub asked-rises : {f : Found} → v ≢ s .origin → old ≤ new → new ≢ old → getD parent v 0 ≡ k → foundOf f ≡ method.anew (graphOf (floor s plan)) g v
-      → Asked s plan g rhs parent v k u old new (To (f .rhs) (f .parent))
-  asked-rises n f m e q = subst (λ x. Asked s plan g rhs parent v k u old new (To (x .sum) (x .code))) (sym q) (rises n (omega arith) e)
+use Rattle.choices.specs.Effects.{Touches, Deciding, Asked, keeps, falls, rises}
+use Rattle.change.specs.Promise.{withPlan, replanned, enteredCell, backCode, oldCost, methodChange, WorkedIn}
 
 -- ---- the method's change, case by case
 

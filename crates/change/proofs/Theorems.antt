@@ -15,13 +15,14 @@ use Rattle.plan.proofs.ChangeLaws.{changed-obeys, changed-altered}
 use Rattle.tables.specs.declared.Session.{Session}
 use Rattle.tables.specs.Lent.{Tables, cells, floor, graph, session, core, Fits}
 use Rattle.tables.specs.Sound.{Sound}
+use Rattle.choices.specs.Effects.{Touches}
 use Rattle.session.specs.declared.Answer.the-variants.{Done}
 use Rattle.session.specs.declared.Reply.{Reply}
 use Rattle.session.specs.Refusals.{answered}
 use Rattle.session.specs.Promises.{Alike}
 use Rattle.session.proofs.Theorems.{done-zero, same-reply, refusal, alike, alike-same}
 use Rattle.change.specs.Refusals.{Workable}
-use Rattle.change.specs.Promise.{counted, Touches, withPlan, replanned, enteredCell, backCode, oldCost, WorkedIn, Changes}
+use Rattle.change.specs.Promise.{counted, withPlan, replanned, enteredCell, backCode, oldCost, WorkedIn, Changes}
 use Rattle.change.proofs.RefusalLaws.{change-number, change-granted, change-passes}
 
 -- ---- a change that no rule refuses is done, a refused one changes nothing

@@ -1,9 +1,8 @@
 -- What a change promises: its answer, the record and every table, for every input.
 use mathlib.Core.Path.{_≡_}
-use mathlib.Core.Logic.{_⊎_, _≢_}
+use mathlib.Core.Logic.{_≢_}
 use mathlib.Core.List.{List}
-use Prim.Native.Nat.{ℕ, _+_, _<_}
-use lib.ListN.{getD}
+use Prim.Native.Nat.{ℕ, _+_}
 use Rattle.method.specs.Tables as method
 use Rattle.method.specs.Session.{huntOf, moveChanged}
 use Rattle.queue.specs.Queue.{Heap}
@@ -12,6 +11,7 @@ use Rattle.plan.specs.Cells.{entered}
 use Rattle.plan.specs.Costs.{byte, withByte}
 use Rattle.tables.specs.declared.Session.{Session}
 use Rattle.tables.specs.Lent.{Tables, tables, cells, floor, graph, session, core}
+use Rattle.choices.specs.Effects.{Touches}
 use Rattle.session.specs.declared.Reply.{Reply}
 use Rattle.session.specs.Refusals.{answered}
 use Rattle.change.specs.Refusals.{ChangeRules}
@@ -19,11 +19,6 @@ use Rattle.change.specs.Refusals.{ChangeRules}
 -- The record with another count of the queue.
 abbrev pub counted : Session → ℕ → Session
 counted s n = record { width = s .width; height = s .height; hunter = s .hunter; target = s .target; origin = s .origin; goal = s .goal; km = s .km; count = n; searches = s .searches }
-
--- The cell v is written: it is not the search's hunter, and the cost falls so that "g(u) + cost < rhs(v)", or rises where "u is its parent"; k is the parent code of the move at v.
-abbrev pub Touches : (hunter : ℕ) (g rhs parent : List ℕ) (v k u old new : ℕ) → Type 0
-Touches hunter g rhs parent v k u old new =
-    (v ≢ hunter) × (((new < old) × (getD g u 0 + new < getD rhs v 0)) ⊎ ((old < new) × (getD parent v 0 ≡ k)))
 
 -- The tables with another plan, all else as it was.
 abbrev pub withPlan : Tables → List ℕ → Tables

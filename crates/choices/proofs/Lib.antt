@@ -1,3 +1,4 @@
 pub mod AskLaws
 pub mod KeyLaws
 pub mod ChoiceLaws
+pub mod EffectLaws

@@ -1,10 +1,12 @@
-// What a step of a search chooses, reading the tables and writing nothing: the next cell, whether it is put back, and what each of its open moves does.
+// What a step of a search and a changed move choose, reading the tables and writing nothing: the next cell, whether it is put back, what each of its open moves does, and what a changed move asks of the cell that it enters.
 use entries;
 use entries::Aim;
 use plan;
 use plan::Reach;
 use plan::Spot;
 use queue;
+use tables;
+use tables::Session;
 ghost use mathlib.Core.Path.{_≡_};
 ghost use Prim.Native.Nat.{_+_, _<_, _≤_};
 ghost use lib.Dec.{ltb};
@@ -14,6 +16,7 @@ ghost use Rattle.tables.specs.Lent.{tables, core};
 ghost use Rattle.entries.specs.Aims.{area, hunt, mostG, Aimed};
 ghost use Rattle.choices.specs.Moves.{Relaxes, Renews, Numbers, Keyed};
 ghost use Rattle.choices.specs.Next.{Goal, Choosing, Chosen};
+ghost use Rattle.choices.specs.Effects.{Deciding, Asked};
 
 // What an open move from u does in "lower": nothing, or a new rhs for the cell entered.
 pub enum Relaxing {
@@ -83,7 +86,7 @@ pub fn stale(a: Aim, g: &[u32], rhs: &[u32], k1: &[u32], k2: &[u32], u: usize, a
     requires { ⌜ Keyed a u at (now g) (now rhs) (now k1) (now k2) ⌝ }
     ensures { λ r. ⌜ ((plan parent place list : Numbers) → r ≡ ltb (storedKey (core (tables plan (now (g .entry)) (now (rhs .entry)) parent (now (k1 .entry)) (now (k2 .entry)) place list)) u) (calculatedKey (hunt a plan) (core (tables plan (now (g .entry)) (now (rhs .entry)) parent (now (k1 .entry)) (now (k2 .entry)) place list)) u)) ⌝ }
 {
-    let m = entries::lesser(g[u], rhs[u]);
+    let m = tables::lesser(g[u], rhs[u]);
     let first = entries::first_key(a, m, at);
     precedes(k1[u], k2[u], first, m)
 }
@@ -93,8 +96,8 @@ fn short_of(a: Aim, y: u32, p: u32, q: u32) -> bool
     requires { ⌜ Goal a y ⌝ }
     ensures { λ r. ⌜ ((plan : Numbers) → r ≡ ltb (keyNumber p q) (keyNumber (firstKey (hunt a plan) (a .target) y) y)) ⌝ }
 {
-    if y == entries::INFINITE {
-        return precedes(p, q, entries::INFINITE, entries::INFINITE);
+    if y == tables::INFINITE {
+        return precedes(p, q, tables::INFINITE, tables::INFINITE);
     }
     precedes(p, q, y + a.km, y)
 }
@@ -133,4 +136,56 @@ pub fn chosen(
         return Choice::On(u);
     }
     Choice::Done
+}
+
+// What a changed move asks of the cell that it enters: to keep its rhs and parent, or to take these.
+pub enum Effect {
+    Keeps,
+    To(u32, u8),
+}
+
+// A number and a cost, in 64 bits.
+fn sum_of(far: u32, cost: u8) -> usize
+    ensures { λ r. ⌜ r ≡ far + cost ⌝ }
+{
+    far as usize + cost as usize
+}
+
+// What a changed move asks of the cell v that it enters, where it has parent code k. The plan has the new cost.
+pub fn effect_of(
+    s: Session,
+    plan: &[u8],
+    g: &[u32],
+    rhs: &[u32],
+    parent: &[u8],
+    v: usize,
+    k: u8,
+    u: usize,
+    old: u8,
+    new: u8,
+) -> Effect
+    requires { ⌜ Deciding s (now plan) (now g) (now rhs) (now parent) v u ⌝ }
+    ensures { λ r. ⌜ Asked s (now (plan .entry)) (now (g .entry)) (now (rhs .entry)) (now (parent .entry)) v k u old new r ⌝ }
+{
+    let far = g[u];
+    let y = rhs[v];
+    let p = parent[v];
+    if v == s.origin {
+        return Effect::Keeps;
+    }
+    if new < old {
+        let sum = sum_of(far, new);
+        if sum < y as usize {
+            return Effect::To(sum as u32, k);
+        }
+        return Effect::Keeps;
+    }
+    if new == old {
+        return Effect::Keeps;
+    }
+    if p != k {
+        return Effect::Keeps;
+    }
+    let f = entries::anew(s.width, s.height, plan, g, v);
+    Effect::To(f.rhs, f.parent)
 }

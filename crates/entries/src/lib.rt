@@ -3,9 +3,10 @@ use plan;
 use plan::Reach;
 use plan::Spot;
 use queue;
+use tables;
 use tables::Session;
 ghost use mathlib.Core.Path.{_≡_};
-ghost use Prim.Native.Nat.{_+_, _*_, _<_, _≤_, min};
+ghost use Prim.Native.Nat.{_+_, _*_, _<_, _≤_};
 ghost use lib.ListN.{length, replicate};
 ghost use Rattle.method.specs.Numbers.{infinite};
 ghost use Rattle.method.specs.Tables.{leastOver, anew as anewOf, foundAnew};
@@ -46,19 +47,6 @@ pub fn aim_of(s: Session) -> Aim
     }
 }
 
-// The infinite number.
-pub const INFINITE: u32 = 4294967295;
-
-// The lesser of g and rhs, as a key has it.
-pub fn lesser(g: u32, rhs: u32) -> u32
-    ensures { λ r. ⌜ r ≡ min g rhs ⌝ }
-{
-    if g < rhs {
-        return g;
-    }
-    rhs
-}
-
 // The first key number of a cell at a spot whose lesser number is m.
 pub fn first_key(a: Aim, m: u32, at: Spot) -> u32
     requires { ⌜ (Placed at) × (a .row < 64) × (a .column < 64) ⌝ }
@@ -97,7 +85,7 @@ pub fn set_right(
         }
         return queue::take_out(a.width, k1, k2, place, list, count, cell);
     }
-    let m = lesser(x, y);
+    let m = tables::lesser(x, y);
     let first = first_key(a, m, at);
     if i == queue::ABSENT {
         return queue::put_in(a.width, k1, k2, place, list, count, cell, first, m);
@@ -132,7 +120,7 @@ fn looked_at(
         return best;
     };
     let far = g[u];
-    if far == INFINITE {
+    if far == tables::INFINITE {
         return best;
     }
     let sum = far + cost as u32;
@@ -153,7 +141,7 @@ pub fn anew(width: usize, height: usize, plan: &[u8], g: &[u32], s: usize) -> Fo
     ensures { λ r. ⌜ foundOf r ≡ anewOf (graphOf (planOf width height (now (plan .entry)))) (now (g .entry)) s ⌝ }
 {
     let mut best = Found {
-        rhs: INFINITE,
+        rhs: tables::INFINITE,
         parent: 0,
     };
     for d in 0..4 {
@@ -234,8 +222,8 @@ fn fresh(
     ensures { λ r. ⌜ Became a r (after plan g rhs parent k1 k2 place list) (freshOf (graphOf (floor a (now (plan .entry)))) (a .hunter) (a .target)) ⌝ }
     ensures { λ r. ⌜ r ≡ 1 ⌝ }
 {
-    fill_words(g, INFINITE);
-    fill_words(rhs, INFINITE);
+    fill_words(g, tables::INFINITE);
+    fill_words(rhs, tables::INFINITE);
     fill_bytes(parent, 0);
     fill_words(k1, 0);
     fill_words(k2, 0);

@@ -4,6 +4,7 @@ use entries;
 use entries::Aim;
 use plan;
 use plan::Spot;
+use tables;
 ghost use mathlib.Core.Path.{_≡_};
 ghost use Prim.Native.Nat.{_+_, _*_, _<_, _≤_};
 ghost use lib.ListN.{getD};
@@ -131,7 +132,7 @@ fn raise(
     requires { ⌜ (u < area a) × At (a .width) u at ⌝ }
     ensures { λ r. ⌜ Became a r (after plan g rhs parent k1 k2 place list) (raised (hunt a (now (plan .entry))) (core (before plan g rhs parent k1 k2 place list)) u) ⌝ }
 {
-    g[u] = entries::INFINITE;
+    g[u] = tables::INFINITE;
     let mut n = count;
     for d in 0..4 {
         n = renew(a, plan, g, rhs, parent, k1, k2, place, list, n, u, at, d);

@@ -29,6 +29,9 @@ pub struct Session {
     pub searches: u32,
 }
 
+// The infinite number.
+pub const INFINITE: u32 = 4294967295;
+
 // Has every table the length that the plan's size gives?
 pub fn lengths_hold(
     width: usize,
@@ -166,7 +169,7 @@ fn bound_holds(bound: u32, x: u32) -> bool
     if x <= bound {
         return true;
     }
-    x == 4294967295
+    x == INFINITE
 }
 
 // Do a cell's own numbers obey their rules?
@@ -183,16 +186,16 @@ fn own_holds(bound: u32, hunter: usize, s: usize, g: u32, r: u32, p: u8) -> bool
         return p == 0;
     }
     if p == 0 {
-        return r == 4294967295;
+        return r == INFINITE;
     }
     if 4 < p {
         return false;
     }
-    r != 4294967295
+    r != INFINITE
 }
 
-// The lesser of g and rhs.
-fn lesser(g: u32, rhs: u32) -> u32
+// The lesser of g and rhs, as a key has it.
+pub fn lesser(g: u32, rhs: u32) -> u32
     ensures { λ r. ⌜ r ≡ min g rhs ⌝ }
 {
     if g < rhs {

@@ -1,6 +1,7 @@
 // Before its steps a search takes over the target and the hunter as placed, or starts fresh.
 use entries;
 use plan;
+use tables;
 use tables::Session;
 ghost use mathlib.Core.Path.{_≡_};
 ghost use Rattle.method.specs.Session.{takenOver};
@@ -95,7 +96,7 @@ pub fn take_over(
     if h == s.origin {
         return t;
     }
-    if rhs[h] == entries::INFINITE {
+    if rhs[h] == tables::INFINITE {
         return entries::begin(
             s.width,
             s.height,

@@ -1,8 +1,8 @@
 use native.Mathlib.Omega.{arith}
-use Rattle.change.proofs.EffectLaws.{asked-own, asked-falls, asked-high, asked-level, asked-other, asked-rises}
+use Rattle.choices.proofs.EffectLaws.{asked-own, asked-falls, asked-high, asked-level, asked-other, asked-rises}
 use borrow.Author.Needs.{needs}
-use Rattle.change.proofs.effect_of.Statement.{statement}
-use Rattle.change.proofs.effect_of.Tie as tie
+use Rattle.choices.proofs.effect_of.Statement.{statement}
+use Rattle.choices.proofs.effect_of.Tie as tie
 
 mul-far : tie.Need-mul-far
 mul-far c = search needs

@@ -1,6 +1,6 @@
--- What the inner functions of a change rest on, and what they promise.
+-- What a changed move asks of the cell that it enters.
 use mathlib.Core.Path.{_≡_}
-use mathlib.Core.Logic.{_≢_}
+use mathlib.Core.Logic.{_⊎_, _≢_}
 use mathlib.Core.List.{List}
 use Prim.Native.Nat.{ℕ, _+_, _<_}
 use lib.ListN.{getD, length}
@@ -10,9 +10,13 @@ use Rattle.plan.specs.Grid.{graphOf}
 use Rattle.tables.specs.declared.Session.{Session}
 use Rattle.tables.specs.Lent.{cells, floor}
 use Rattle.entries.specs.Aims.{Small, mostG}
-use Rattle.change.specs.declared.Effect.{Effect}
-use Rattle.change.specs.declared.Effect.the-variants.{Keeps, To}
-use Rattle.change.specs.Promise.{Touches}
+use Rattle.choices.specs.declared.Effect.{Effect}
+use Rattle.choices.specs.declared.Effect.the-variants.{Keeps, To}
+
+-- The cell v is written: it is not the search's hunter, and the cost falls so that "g(u) + cost < rhs(v)", or rises where "u is its parent"; k is the parent code of the move at v.
+abbrev pub Touches : (hunter : ℕ) (g rhs parent : List ℕ) (v k u old new : ℕ) → Type 0
+Touches hunter g rhs parent v k u old new =
+    (v ≢ hunter) × (((new < old) × (getD g u 0 + new < getD rhs v 0)) ⊎ ((old < new) × (getD parent v 0 ≡ k)))
 
 -- The plan obeys, the tables that a decision reads have their lengths, every g leaves room for a cost, and both cells are in the plan.
 pub record Deciding (s : Session) (plan g rhs parent : List ℕ) (v u : ℕ) : Type 0 where
