@@ -2,13 +2,13 @@
 use tables;
 
 // The two numbers of the digest.
-pub struct Digest {
-    pub a: usize,
-    pub b: usize,
+pub(crate) struct Digest {
+    pub(crate) a: usize,
+    pub(crate) b: usize,
 }
 
 // The digest with one number more.
-pub fn fold(d: Digest, v: usize) -> Digest {
+pub(crate) fn fold(d: Digest, v: usize) -> Digest {
     let w = v % 1000003;
     Digest {
         a: (d.a % 1000003 * 4093 + w) % 1000003,
@@ -17,29 +17,29 @@ pub fn fold(d: Digest, v: usize) -> Digest {
 }
 
 // A byte as a number.
-pub fn of_byte(x: u8) -> usize {
+pub(crate) fn of_byte(x: u8) -> usize {
     x as usize
 }
 
 // A 32-bit entry as a number.
-pub fn wide(x: u32) -> usize {
+pub(crate) fn wide(x: u32) -> usize {
     x as usize
 }
 
 // A 16-bit entry as a number.
-pub fn cell_of(x: u16) -> usize {
+pub(crate) fn cell_of(x: u16) -> usize {
     x as usize
 }
 
 // The digest with a record.
-pub fn fold_session(d: Digest, s: tables::Session) -> Digest {
+pub(crate) fn fold_session(d: Digest, s: tables::Session) -> Digest {
     let placed = fold(fold(fold(fold(d, s.width), s.height), s.hunter), s.target);
     let taken = fold(fold(fold(placed, s.origin), s.goal), wide(s.km));
     fold(fold(taken, s.count), wide(s.searches))
 }
 
 // The digest with the plan of so many cells.
-pub fn fold_plan(d: Digest, t: [u8; 1280], cells: usize) -> Digest {
+pub(crate) fn fold_plan(d: Digest, t: [u8; 1280], cells: usize) -> Digest {
     let many = cells % 321 * 4;
     let mut seen = d;
     let mut i = 0;
@@ -51,7 +51,7 @@ pub fn fold_plan(d: Digest, t: [u8; 1280], cells: usize) -> Digest {
 }
 
 // The digest with a table of bytes.
-pub fn fold_bytes(d: Digest, t: [u8; 320], cells: usize) -> Digest {
+pub(crate) fn fold_bytes(d: Digest, t: [u8; 320], cells: usize) -> Digest {
     let many = cells % 321;
     let mut seen = d;
     let mut i = 0;
@@ -63,7 +63,7 @@ pub fn fold_bytes(d: Digest, t: [u8; 320], cells: usize) -> Digest {
 }
 
 // The digest with a table of 32-bit numbers.
-pub fn fold_wide(d: Digest, t: [u32; 320], cells: usize) -> Digest {
+pub(crate) fn fold_wide(d: Digest, t: [u32; 320], cells: usize) -> Digest {
     let many = cells % 321;
     let mut seen = d;
     let mut i = 0;
@@ -75,7 +75,7 @@ pub fn fold_wide(d: Digest, t: [u32; 320], cells: usize) -> Digest {
 }
 
 // The digest with a table of 16-bit numbers.
-pub fn fold_cells(d: Digest, t: [u16; 320], cells: usize) -> Digest {
+pub(crate) fn fold_cells(d: Digest, t: [u16; 320], cells: usize) -> Digest {
     let many = cells % 321;
     let mut seen = d;
     let mut i = 0;
@@ -87,7 +87,7 @@ pub fn fold_cells(d: Digest, t: [u16; 320], cells: usize) -> Digest {
 }
 
 // 1 for the place of a queued cell, else 0.
-pub fn is_queued(place: u16) -> usize {
+pub(crate) fn is_queued(place: u16) -> usize {
     if place == 65535 {
         return 0;
     }
@@ -95,7 +95,7 @@ pub fn is_queued(place: u16) -> usize {
 }
 
 // The digest with whether each cell is queued.
-pub fn fold_queued(d: Digest, place: [u16; 320], cells: usize) -> Digest {
+pub(crate) fn fold_queued(d: Digest, place: [u16; 320], cells: usize) -> Digest {
     let many = cells % 321;
     let mut seen = d;
     let mut i = 0;

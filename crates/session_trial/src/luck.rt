@@ -1,14 +1,14 @@
 // The generator of the trial: section 7 of compare/PROTOCOL.md.
 
 // The state of the generator.
-pub struct Luck {
-    pub x: usize,
-    pub y: usize,
-    pub z: usize,
+pub(crate) struct Luck {
+    pub(crate) x: usize,
+    pub(crate) y: usize,
+    pub(crate) z: usize,
 }
 
 // The generator's next state.
-pub fn next(l: Luck) -> Luck {
+pub(crate) fn next(l: Luck) -> Luck {
     Luck {
         x: l.x % 30269 * 171 % 30269,
         y: l.y % 30307 * 172 % 30307,
@@ -17,12 +17,12 @@ pub fn next(l: Luck) -> Luck {
 }
 
 // The number that a state stands for.
-pub fn value(l: Luck) -> usize {
+pub(crate) fn value(l: Luck) -> usize {
     (l.x % 30269 * 32768 + l.y % 30307 * 181 + l.z % 30323) % 1000003
 }
 
 // The number of a state, brought below n.
-pub fn below(l: Luck, n: usize) -> usize {
+pub(crate) fn below(l: Luck, n: usize) -> usize {
     if n == 0 {
         return 0;
     }
@@ -30,12 +30,12 @@ pub fn below(l: Luck, n: usize) -> usize {
 }
 
 // The number of a state, brought to n or below, for n below 65,536.
-pub fn up_to(l: Luck, n: usize) -> usize {
+pub(crate) fn up_to(l: Luck, n: usize) -> usize {
     value(l) % (n % 65536 + 1)
 }
 
 // The generator of a session: seed 4, and twenty numbers thrown away.
-pub fn start(session: usize) -> Luck {
+pub(crate) fn start(session: usize) -> Luck {
     let j = session % 1000003;
     let mut l = Luck {
         x: (j * 17 + 125) % 30268 + 1,
