@@ -20,18 +20,15 @@ use Rattle.session.specs.declared.Answer.the-variants.{Done}
 use Rattle.session.specs.declared.Reply.{Reply}
 use Rattle.session.specs.Refusals.{answered}
 use Rattle.session.specs.Promises.{Alike}
-use Rattle.session.proofs.Theorems.{done-zero, same-reply, refusal, alike, alike-same}
+use Rattle.session.proofs.Theorems.{done-zero, same-reply, alike, alike-same}
 use Rattle.change.specs.Refusals.{Workable}
 use Rattle.change.specs.Promise.{counted, withPlan, replanned, enteredCell, backCode, oldCost, WorkedIn, Changes}
 use Rattle.change.proofs.RefusalLaws.{change-number, change-granted, change-passes}
 
--- ---- a change that no rule refuses is done, a refused one changes nothing
+-- ---- a change that no rule refuses is done
 
 pub change-done : {s : Session} {t t′ : Tables} {u d cost : ℕ} {r : Reply} → Changes s t u d cost r t′ → Fits (cells s) t → Workable s t u d cost → r .answer ≡ Done
 change-done P f w = P .answer ∙ ap answered (change-passes (P .rules) f w)
-
-pub change-refused : {s : Session} {t t′ : Tables} {u d cost : ℕ} {r : Reply} → Changes s t u d cost r t′ → r .answer ≢ Done → (r .session ≡ s) × (t′ ≡ t)
-change-refused P n = P .refused (refusal (P .answer) n)
 
 -- ---- two results of one change: equal but for the order inside the heap
 

@@ -6,10 +6,9 @@ use Prim.Native.Nat.{ℕ, _+_, _≤_, _<_}
 use native.Mathlib.Omega.{arith}
 use lib.ListN.{getD}
 use Rattle.method.specs.Numbers.{infinite}
-use Rattle.method.specs.Graph.{Move, move, Graph, GraphLaws}
+use Rattle.method.specs.Graph.{Move, move, Graph}
 use Rattle.method.specs.Tables.{Found, found, better, leastOver, anew, Via, Least}
 use Rattle.method.proofs.Choices.{choose-is}
-use Rattle.method.proofs.Facts.{least-mono}
 
 -- r came from looking through the moves of l, f the least found before
 record Over (g : List ℕ) (f : Found) (l : List Move) (r : Found) : Type 0 where
@@ -63,12 +62,6 @@ anew-least G g s = record { le-inf = o .le; least = o .least; reached = at (o .f
         → ((r .sum ≡ infinite) × (r .code ≡ 0)) ⊎ ((r .sum < infinite) × Via G (λ w. getD g w 0) s (r .sum) (r .code))
     at (inl e) = inl (ap (λ x. x .sum) e, ap (λ x. x .code) e)
     at (inr v) = inr (v .0, record { from = v .1; cost = v .2; comes = v .3; sum = v .4 })
-
--- and the least is one number
-pub least-is-anew : {G : Graph} → GraphLaws G → (g : List ℕ) {s r p : ℕ} → Least G (λ w. getD g w 0) s r p → r ≡ anew G g s .sum
-least-is-anew {G} L g {s} {r} {p} A =
-    let B = anew-least G g s in
-    omega (arith, least-mono L (λ w l. omega arith) A B, least-mono L (λ w l. omega arith) B A)
 
 -- the same numbers under another name
 pub least-cast : {G : Graph} {s : ℕ} {g g′ : List ℕ} {r r′ p p′ : ℕ} → g′ ≡ g → r′ ≡ r → p′ ≡ p → Least G (λ w. getD g w 0) s r p → Least G (λ w. getD g′ w 0) s r′ p′

@@ -8,7 +8,7 @@ use native.Mathlib.Omega.{arith}
 use lib.ListN.{length}
 use Rattle.method.specs.Numbers.{infinite, mostCost, mostEstimate, growth}
 use Rattle.method.specs.Graph.{Graph, GraphLaws, Hunt}
-use Rattle.method.specs.Tables.{Tables, Sized, rhsAt}
+use Rattle.method.specs.Tables.{Tables, rhsAt}
 use Rattle.method.specs.Loop.{Ran, run}
 use Rattle.method.specs.Session.{Session, huntOf, takenOver, counted, Answer, caught, way, wayFrom, answerOf, Outcome, searchedFrom, search}
 use Rattle.method.specs.Sound.{Sound}
@@ -18,9 +18,9 @@ use Rattle.method.proofs.Notions.{Stands}
 use Rattle.method.proofs.Facts.{rhs-le, toCome, toCome-le}
 use Rattle.method.proofs.Answers.{Stopped, Room, no-chain, cheapest}
 use Rattle.method.proofs.Bounds.{During, starts, sum-fits}
-use Rattle.method.proofs.Running.{run-sized, Went, went}
+use Rattle.method.proofs.Running.{Went, went}
 use Rattle.method.proofs.Soundness.{sound-stands, sound-right, sound-bound, right-sound}
-use Rattle.method.proofs.Readying.{takenOver-sized, Ready, ready}
+use Rattle.method.proofs.Readying.{Ready, ready}
 
 -- ---- the answer
 
@@ -135,6 +135,3 @@ pub of-search : (G : Graph) (σ : Session) (T : Tables) (P : Outcome → Type 0)
     → (σ .hunter ≢ σ .target → P (searchedFrom G (takenOver G σ T))) → P (search G σ T)
 unfolding search
 of-search G σ T P c s = choose-is P _ c s
-
-pub search-sized : (G : Graph) (σ : Session) {T : Tables} → Sized (G .cells) T → Sized (G .cells) (search G σ T .tables)
-search-sized G σ {T} z = of-search G σ T (λ o. Sized (G .cells) (o .tables)) (λ _. z) (λ _. run-sized (takenOver-sized G σ z) (huntTaken G σ T) (3 * G .cells))

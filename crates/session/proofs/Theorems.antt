@@ -1,6 +1,5 @@
 -- What the calls' statements settle: two results that one allows are equal, the order inside the heap apart; a call that no rule refuses is done; sound tables stay sound.
 use mathlib.Core.Path.{_≡_, refl, sym, ap, subst, _∙_}
-use mathlib.Core.Logic.{_≢_}
 use mathlib.Core.Bool.{Bool, false}
 use mathlib.Core.List.{List}
 use Prim.Native.Nat.{ℕ, zero, suc, _≤_, _<_}
@@ -27,7 +26,7 @@ use Rattle.session.specs.declared.Answer.{Answer}
 use Rattle.session.specs.declared.Answer.the-variants.{Done}
 use Rattle.session.specs.declared.Reply.{Reply}
 use Rattle.session.specs.Refusals.{answered}
-use Rattle.session.specs.Promises.{hunterAt, targetAt, nothing, Places, Opens, Names, Alike}
+use Rattle.session.specs.Promises.{hunterAt, targetAt, Places, Opens, Names, Alike}
 use Rattle.session.proofs.RefusalLaws.{place-number, open-number, place-granted, open-granted, place-passes, open-passes}
 
 -- ---- answers and replies
@@ -50,17 +49,6 @@ place-done {s} P z l = let e = place-passes s (P .rules) z l in (P .answer ∙ a
 
 pub open-done : {width height hunter target : ℕ} {t t′ : Tables} {r : Reply} → Opens width height hunter target t r t′ → Openable width height hunter target t → r .answer ≡ Done
 open-done P o = P .answer ∙ ap answered (open-passes (P .rules) o)
-
--- ---- a refusal changes nothing
-
-pub refusal : {n : ℕ} {a : Answer} → a ≡ answered n → a ≢ Done → n ≢ 0
-refusal e n z = n (e ∙ ap answered z)
-
-pub place-refused : {s placed : Session} {cell : ℕ} {r : Reply} → Places s placed cell r → r .answer ≢ Done → r .session ≡ s
-place-refused P n = P .refused (refusal (P .answer) n)
-
-pub open-refused : {width height hunter target : ℕ} {t t′ : Tables} {r : Reply} → Opens width height hunter target t r t′ → r .answer ≢ Done → (r .session ≡ nothing) × (t′ ≡ t)
-open-refused P n = P .refused (refusal (P .answer) n)
 
 -- ---- two results of one placing
 
