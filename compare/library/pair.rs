@@ -1,6 +1,6 @@
 //! A call made in the model and through the C interface, and all that it leaves compared.
 
-use crate::rongdhesi::{self, lent};
+use crate::rongdhesi::{self, lent, Session as Crossing};
 use compare::digest::numbers_of;
 use compare::model::{self, Answer, Session, Tables, ABSENT};
 use compare::rules::Rule;
@@ -24,34 +24,21 @@ pub enum Call {
     Search,
 }
 
-/// The record as the C interface has it.
-fn crossed(s: &Session) -> rongdhesi::Session {
-    rongdhesi::Session {
-        width: s.width,
-        height: s.height,
-        hunter: s.hunter,
-        target: s.target,
-        origin: s.origin,
-        goal: s.goal,
-        km: s.km,
-        count: s.count,
-        searches: s.searches,
-    }
-}
-
-/// The record as the model has it.
-fn crossed_back(s: &rongdhesi::Session) -> Session {
-    Session {
-        width: s.width,
-        height: s.height,
-        hunter: s.hunter,
-        target: s.target,
-        origin: s.origin,
-        goal: s.goal,
-        km: s.km,
-        count: s.count,
-        searches: s.searches,
-    }
+/// A record of the model as the C interface has it, or the other way round: the same nine fields.
+macro_rules! crossed {
+    ($record:ident, $s:expr) => {
+        $record {
+            width: $s.width,
+            height: $s.height,
+            hunter: $s.hunter,
+            target: $s.target,
+            origin: $s.origin,
+            goal: $s.goal,
+            km: $s.km,
+            count: $s.count,
+            searches: $s.searches,
+        }
+    };
 }
 
 impl Side {
@@ -82,7 +69,7 @@ impl Side {
 
     /// Makes the call through the C interface. Gives the five numbers of the answer.
     fn by_library(&mut self, call: Call) -> [u64; 5] {
-        let session = crossed(&self.session);
+        let session = crossed!(Crossing, self.session);
         let t = &mut self.tables;
         let reply = match call {
             Call::Open { width, height, hunter, target } => {
@@ -95,7 +82,7 @@ impl Side {
             }
             Call::Search => rongdhesi::search(session, &t.plan, lent!(t), &mut self.way),
         };
-        self.session = crossed_back(&reply.session);
+        self.session = crossed!(Session, reply.session);
         [reply.kind, reply.refusal, reply.cost, reply.steps, reply.cells]
     }
 }
