@@ -1,16 +1,18 @@
 -- The letter's three demands, proved of the calls; specs/Demands.antt says what each means.
 use mathlib.Core.Path.{_≡_, refl, sym, ap, subst, _∙_}
 use mathlib.Core.Logic.{_≢_, _↔_}
-use mathlib.Core.List.{List}
-use Prim.Native.Nat.{ℕ, _*_, _≤_}
+use mathlib.Core.List.{List, []}
+use Prim.Native.Nat.{ℕ, zero, suc, _*_, _≤_}
 use native.Mathlib.Omega.{arith}
 use native.Mathlib.Decide.{ℕ-discrete}
 use lib.ListN.{length}
+use Rattle.method.specs.Numbers.{mostSearches}
 use Rattle.method.specs.Graph.{GraphLaws}
 use Rattle.method.specs.Session as calls
 use Rattle.method.specs.Sound as method-sound
 use Rattle.method.specs.Course.{Runs}
 use Rattle.method.specs.Walk.{NoChain, RightAnswer, none-there, way-there}
+use Rattle.method.proofs.Choices.{differ}
 use Rattle.method.proofs.Theorems as method
 use Rattle.queue.specs.Queue.{Heap}
 use Rattle.plan.specs.Costs.{planOf, Obeys}
@@ -20,18 +22,20 @@ use Rattle.tables.specs.declared.Session.{Session}
 use Rattle.tables.specs.Lent.{Tables, cells, floor, graph, session, core}
 use Rattle.tables.specs.Sound.{Sound}
 use Rattle.tables.proofs.SoundLaws.{sound-fits}
+use Rattle.session.specs.declared.Answer.{Answer as CallAnswer}
+use Rattle.session.specs.declared.Answer.the-variants.{Done, Refused as RefusedCall}
 use Rattle.session.specs.Refusals.{answered}
 use Rattle.session.specs.Promises.{Alike}
 use Rattle.session.proofs.RefusalLaws.{answer-refused, place-number, open-number}
-use Rattle.session.proofs.Theorems.{alike, alike-same}
+use Rattle.session.proofs.Theorems.{done-zero, alike, alike-same}
 use Rattle.change.proofs.RefusalLaws.{change-number}
 use Rattle.answer.specs.declared.Answer.{Answer}
 use Rattle.answer.specs.declared.Answer.the-variants.{NoWay, Way, Refused}
 use Rattle.search.specs.declared.Outcome.{Outcome}
 use Rattle.answer.specs.Answer.{toldBy, answerOf, cellsOf}
-use Rattle.search.specs.Promise.{outcome, written, Searched, Searches}
-use Rattle.demands.specs.Demands.{RefusesByNumber, stepsOf, RightlyAnswered, caught, none-leads, way-shown, TakesTheSteps, FewSteps}
-use Rattle.search.proofs.RefusalLaws.{search-number, search-passes}
+use Rattle.search.specs.Promise.{SearchRules, outcome, written, Searched, Searches}
+use Rattle.demands.specs.Demands.{RefusesByNumber, Exactly, RefusesExactly, stepsOf, RightlyAnswered, caught, none-leads, way-shown, TakesTheSteps, FewSteps}
+use Rattle.search.proofs.RefusalLaws.{search-number, search-granted, search-passes}
 
 -- ---- 1
 
@@ -117,6 +121,72 @@ module _ {s : Session} {t : Tables} (S : Sound s t) where
               subst (λ w. Heap w (r .session .height * w) (r .session .count) (t′ .k1) (t′ .k2) (t′ .place) (t′ .list)) (sym (done .wide))
               (subst (λ h. Heap (s .width) (h * s .width) (r .session .count) (t′ .k1) (t′ .k2) (t′ .place) (t′ .list)) (sym (done .high)) (done .heap));
         }
+
+-- ---- 1, both ways
+
+-- An answer that is a refusal tells its number, which is not 0.
+refused-number : (n k : ℕ) → answered n ≡ RefusedCall k → (n ≢ 0) × (n ≡ k)
+refused-number zero k e = differ cc
+refused-number (suc n) k e = (λ z. omega arith, cc)
+
+-- Where a call's answer is that of the number, it is refused exactly by the first rule broken.
+exactly : {a : CallAnswer} {Rules : ℕ → Type 0} {n : ℕ} → ((k : ℕ) → Rules k → n ≡ k) → Rules n → a ≡ answered n → Exactly Rules (λ k. a ≡ RefusedCall k) (a ≡ Done)
+exactly {a} {Rules} {n} one R e = record {
+  refused = λ k. (
+    λ q. let x = refused-number n k (sym e ∙ q) in (λ z. x .0 (x .1 ∙ z), subst Rules (x .1) R),
+    λ x. e ∙ ap answered (one k (x .1)) ∙ sym (answer-refused k (x .0)),
+  );
+  done = (λ q. subst Rules (done-zero n (sym e ∙ q)) R, λ x. e ∙ ap answered (one 0 x));
+}
+
+-- A search that is not refused answers; one that is, answers with the number.
+module _ {s : Session} {t t′ : Tables} (way : List ℕ) {way′ : List ℕ} {r : Outcome} (P : Searches s t way r t′ way′) where
+  answers : P .number ≡ 0 → (k : ℕ) → r .answer ≢ Refused k
+  answers z k e = at (let g = search-granted way (P .rules) z in answered-right (g .0) way (g .1) P) e
+    where
+      at : {a : Answer} {w : List ℕ} → RightlyAnswered s t way a w → a ≡ Refused k → ⊥
+      at (caught _) q = differ cc
+      at (none-leads _ _) q = differ cc
+      at (way-shown _ _ _) q = differ cc
+
+  search-exactly : Exactly (SearchRules s t way) (λ k. r .answer ≡ Refused k) ((k : ℕ) → r .answer ≢ Refused k)
+  search-exactly = record {
+    refused = λ k. (λ q. from k q (ℕ-discrete (P .number) 0), λ x. P .refused (λ z. x .0 (sym (one k (x .1)) ∙ z)) .0 ∙ ap Refused (one k (x .1)));
+    done = (λ f. to f (ℕ-discrete (P .number) 0), λ x. answers (one 0 x));
+  }
+    where
+      one : (k : ℕ) → SearchRules s t way k → P .number ≡ k
+      one k = search-number way (P .rules)
+
+      same : {n k : ℕ} → Refused n ≡ Refused k → n ≡ k
+      same e = cc
+
+      from : (k : ℕ) → r .answer ≡ Refused k → Dec (P .number ≡ 0) → (k ≢ 0) × SearchRules s t way k
+      from k q (yes z) = absurd (answers z k q)
+      from k q (no n) = let e = same (sym (P .refused n .0) ∙ q) in (λ z. n (e ∙ z), subst (SearchRules s t way) e (P .rules))
+
+      to : ((k : ℕ) → r .answer ≢ Refused k) → Dec (P .number ≡ 0) → SearchRules s t way 0
+      to f (yes z) = subst (SearchRules s t way) z (P .rules)
+      to f (no n) = absurd (f (P .number) (P .refused n .0))
+
+pub demand-1-exactly : RefusesExactly
+demand-1-exactly = record {
+  place = λ {s} P. exactly (λ k. place-number s (P .rules)) (P .rules) (P .answer);
+  opening = λ P. exactly (λ k. open-number (P .rules)) (P .rules) (P .answer);
+  change = λ P. exactly (λ k. change-number (P .rules)) (P .rules) (P .answer);
+  search = λ way P. search-exactly way P;
+}
+
+-- ---- a search with nothing to write
+
+-- The hunter stays, nothing starts fresh, and no step is taken: no table is written, list and places neither, whether the search answers or is refused.
+pub search-untouched : {s : Session} {t t′ : Tables} (way : List ℕ) {way′ : List ℕ} {r : Outcome} → Searches s t way r t′ way′ → s .hunter ≡ s .origin → s .searches ≢ mostSearches
+    → stepsOf s t ≡ [] → (r .session .count ≡ s .count) × (t′ ≡ t)
+search-untouched {s} {t} {t′} way {r = r} P h m e = at (ℕ-discrete (P .number) 0)
+  where
+    at : Dec (P .number ≡ 0) → (r .session .count ≡ s .count) × (t′ ≡ t)
+    at (yes z) = P .done z .untouched h m e
+    at (no n) = let q = P .refused n in (ap (λ (x : Session). x .count) (q .1), q .2)
 
 -- ---- two results of one search: equal but for the order inside the heap
 

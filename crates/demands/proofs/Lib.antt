@@ -1,1 +1,4 @@
 pub mod Demands
+pub mod Growth
+pub mod History
+pub mod Raise

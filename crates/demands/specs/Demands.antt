@@ -11,7 +11,7 @@ use Rattle.method.specs.Walk.{NoChain, Cheapest, Once}
 use Rattle.tables.specs.declared.Session.{Session}
 use Rattle.tables.specs.Lent.{Tables, cells, graph, session, core}
 use Rattle.tables.specs.Sound.{Sound}
-use Rattle.session.specs.declared.Answer.the-variants.{Refused as RefusedCall}
+use Rattle.session.specs.declared.Answer.the-variants.{Done, Refused as RefusedCall}
 use Rattle.session.specs.declared.Reply.{Reply}
 use Rattle.session.specs.Refusals.{PlaceRules, OpenRules}
 use Rattle.session.specs.Promises.{nothing, Places, Opens}
@@ -34,6 +34,20 @@ pub record RefusesByNumber : Type 0 where
       → (r .answer ≡ RefusedCall k) × (r .session ≡ s) × (t′ ≡ t)
   pub search : {s : Session} {t t′ : Tables} (way : List ℕ) {way′ : List ℕ} {k : ℕ} {r : Outcome} → Searches s t way r t′ way′ → SearchRules s t way k → k ≢ 0
       → (r .answer ≡ Refused k) × (r .session ≡ s) × (t′ ≡ t) × (way′ ≡ way)
+
+-- "Given exactly when": k is answered if and only if k is the number of the first rule broken, and the call is done if and only if no rule is broken.
+pub record Exactly (Rules Answers : ℕ → Type 0) (Completed : Type 0) : Type 0 where
+  pub refused : (k : ℕ) → Answers k ↔ ((k ≢ 0) × Rules k)
+  pub done : Completed ↔ Rules 0
+
+-- So of each call; a search is done if it answers and does not refuse.
+pub record RefusesExactly : Type 0 where
+  pub place : {s placed : Session} {cell : ℕ} {r : Reply} → Places s placed cell r → Exactly (PlaceRules s cell) (λ k. r .answer ≡ RefusedCall k) (r .answer ≡ Done)
+  pub opening : {width height hunter target : ℕ} {t t′ : Tables} {r : Reply} → Opens width height hunter target t r t′
+      → Exactly (OpenRules width height hunter target t) (λ k. r .answer ≡ RefusedCall k) (r .answer ≡ Done)
+  pub change : {s : Session} {t t′ : Tables} {u d cost : ℕ} {r : Reply} → Changes s t u d cost r t′ → Exactly (ChangeRules s t u d cost) (λ k. r .answer ≡ RefusedCall k) (r .answer ≡ Done)
+  pub search : {s : Session} {t t′ : Tables} (way : List ℕ) {way′ : List ℕ} {r : Outcome} → Searches s t way r t′ way′
+      → Exactly (SearchRules s t way) (λ k. r .answer ≡ Refused k) ((k : ℕ) → r .answer ≢ Refused k)
 
 -- The steps that a search of these tables takes.
 abbrev pub stepsOf : Session → Tables → List Step

@@ -6,7 +6,7 @@ use Prim.Native.Nat.{ℕ, zero, suc, _<_}
 use native.Mathlib.Omega.{arith}
 use native.Mathlib.Decide.{ℕ-discrete, decLt}
 use Rattle.method.specs.Tables.{choose, firstKey, enter, setRight, better, leastOver, anew, foundAnew}
-use Rattle.method.specs.Steps.{relaxed, relaxedAll, lowered, renewed, renewedAll, raised, stepped}
+use Rattle.method.specs.Steps.{relaxed, relaxedAll, lowered, renewed, renewedAll, raised, kindOf, stepped}
 use Rattle.method.specs.Loop.{sooner, soonest, leastQueued, goesOn, nextCell, runOn, run}
 use Rattle.method.specs.Session.{blank, fresh, moveChanged, handedOver, takenOver, parentCell, wayFrom, answerOf, search}
 use Rattle.method.proofs.Choices.{choose-yes, choose-no}
@@ -17,13 +17,13 @@ use Rattle.plan.specs.Grid.{outBy, intoBy, upTo}
 use Rattle.drill_file.specs.File.{actionOf, actionAt, actionsFrom, wellFormed, isSize, formNumber}
 use Rattle.lines.specs.Text.{bytes, digits, spaced}
 use Rattle.drill.specs.Numbers.{below, isByte, bytesHold, edgeHolds, edgesHold, openNumber, moveNumber}
-use Rattle.drill.specs.Play.{turn, played, leftBy}
+use Rattle.drill.specs.Play.{turn, played, leftBy, takenFrom, takenBy}
 use Rattle.drill.specs.Output.{fileNumber, output}
 use Rattle.drill.specs.Cases.{given, cases}
 
 -- For every file of the list the definitions give what the list says.
 pub all-cases : map (λ c. given (c .file)) cases ≡ cases
-unfolding choose firstKey enter setRight better leastOver anew foundAnew relaxed relaxedAll lowered renewed renewedAll raised stepped sooner soonest leastQueued goesOn nextCell runOn run blank fresh moveChanged handedOver takenOver parentCell wayFrom answerOf search shifts stays estimate isCost outBy intoBy upTo actionOf actionAt actionsFrom wellFormed isSize formNumber bytes digits spaced below isByte bytesHold edgeHolds edgesHold openNumber moveNumber turn played leftBy fileNumber output cases ℕ-discrete decLt Dec·and
+unfolding choose firstKey enter setRight better leastOver anew foundAnew relaxed relaxedAll lowered renewed renewedAll raised kindOf stepped sooner soonest leastQueued goesOn nextCell runOn run blank fresh moveChanged handedOver takenOver parentCell wayFrom answerOf search shifts stays estimate isCost outBy intoBy upTo actionOf actionAt actionsFrom wellFormed isSize formNumber bytes digits spaced below isByte bytesHold edgeHolds edgesHold openNumber moveNumber turn played leftBy takenFrom takenBy fileNumber output cases ℕ-discrete decLt Dec·and
 all-cases = refl
 
 -- No move stays in a plan of 1 by 1.

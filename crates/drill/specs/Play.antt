@@ -3,6 +3,9 @@ use mathlib.Core.List.{List, [], _∷_, _++_}
 use Prim.Native.Nat.{ℕ, _+_}
 use native.Mathlib.Decide.{ℕ-discrete, decLt}
 use Rattle.method.specs.Tables as method
+use Rattle.method.specs.Graph.{Hunt}
+use Rattle.method.specs.Steps.{Kind, stepped}
+use Rattle.method.specs.Loop.{Step}
 use Rattle.method.specs.Session as method-session
 use Rattle.plan.specs.Directions.{opposite}
 use Rattle.plan.specs.Cells.{entered}
@@ -63,3 +66,32 @@ played S (a ∷ l) = let t = turn S a in t .line ++ played (t .after) l
 unfoldable pub leftBy : Standing → List Action → Standing
 leftBy S [] = S
 leftBy S (a ∷ l) = leftBy (turn S a .after) l
+
+-- A step of a search: what was done on which cell, its g and rhs before, and what its g becomes.
+pub record Taken : Type 0 where
+  pub kind : Kind
+  pub cell : ℕ
+  pub g : ℕ
+  pub rhs : ℕ
+  pub becomes : ℕ
+
+unfoldable pub takenFrom : Hunt → method.Tables → List Step → List Taken
+takenFrom H T [] = []
+takenFrom H T (x ∷ l) =
+    record { kind = x .kind; cell = x .cell; g = method.gAt T (x .cell); rhs = method.rhsAt T (x .cell); becomes = method.gAt (stepped H T (x .cell)) (x .cell) }
+    ∷ takenFrom H (stepped H T (x .cell)) l
+
+-- The steps of a search, from the tables taken over.
+abbrev pub takenIn : Standing → List Taken
+takenIn S =
+    takenFrom (method-session.huntOf (graphOf (S .plan)) (method-session.takenOver (graphOf (S .plan)) (S .session) (S .tables) .session))
+    (method-session.takenOver (graphOf (S .plan)) (S .session) (S .tables) .tables) (method-session.search (graphOf (S .plan)) (S .session) (S .tables) .steps)
+
+-- The steps of each search among the actions.
+unfoldable pub takenBy : Standing → List Action → List (List Taken)
+takenBy S [] = []
+takenBy S (Search ∷ l) = takenIn S ∷ takenBy (turn S Search .after) l
+takenBy S (Change u d cost ∷ l) = takenBy (turn S (Change u d cost) .after) l
+takenBy S (Hunter s ∷ l) = takenBy (turn S (Hunter s) .after) l
+takenBy S (Target s ∷ l) = takenBy (turn S (Target s) .after) l
+takenBy S (Bad ∷ l) = takenBy S l

@@ -27,7 +27,7 @@ use Rattle.entries.specs.declared.Aim.{Aim}
 use Rattle.entries.specs.Aims as aims
 use Rattle.entries.specs.Aims.{AimOf, Aimed, Held}
 use Rattle.steps.specs.Loop.{Started, Finished}
-use Rattle.take_over.specs.TakeOver.{Holds}
+use Rattle.take_over.specs.TakeOver.{Holds, Takes}
 use Rattle.answer.specs.Way.{Leads}
 use Rattle.answer.proofs.WayLaws.{trail-leads}
 use Rattle.answer.specs.declared.Answer.{Answer}
@@ -58,6 +58,7 @@ module _ {s : Session} {t : Tables} (S : Sound s t) (e : s .hunter ≡ s .target
     heap = S .heap;
     shown = ew ∙ first-set way (s .hunter) (omega (arith, S .numbers .hunter-in)) ∙ sym (ap (λ o. written (cellsOf (o .answer)) way) caught-is);
     caught = λ _. (refl, refl);
+    untouched = λ _ _ _. (refl, refl);
   }
 
 -- ---- the search proper
@@ -81,9 +82,12 @@ module _ {s : Session} {t : Tables} (S : Sound s t) where
   ran = runTaken (graph s t) (session s) (core t) (3 * cells s)
 
   module _ {r : Session} {a : Aim} {g₁ rhs₁ parent₁ k1₁ k2₁ place₁ list₁ : List ℕ}
-      (H : Holds s (calls.takenOver (graph s t) (session s) (core t)) r (tables (t .plan) g₁ rhs₁ parent₁ k1₁ k2₁ place₁ list₁)) (O : AimOf r a) where
+      (K : Takes s t r (tables (t .plan) g₁ rhs₁ parent₁ k1₁ k2₁ place₁ list₁)) (O : AimOf r a) where
     abbrev t₁ : Tables
     t₁ = tables (t .plan) g₁ rhs₁ parent₁ k1₁ k2₁ place₁ list₁
+
+    H : Holds s (calls.takenOver (graph s t) (session s) (core t)) r t₁
+    H = K .holds
 
     abbrev b : Aim
     b = aimBy (s .width) (s .height) (calls.takenOver (graph s t) (session s) (core t) .session) (a .row) (a .column)
@@ -126,12 +130,12 @@ module _ {s : Session} {t : Tables} (S : Sound s t) where
     -- ---- after the last step
 
     module _ {n steps : ℕ} {over : Bool} {g₂ rhs₂ parent₂ k1₂ k2₂ place₂ list₂ : List ℕ}
-        (F : Finished a (tables (t .plan) g₁ rhs₁ parent₁ k1₁ k2₁ place₁ list₁) (tables (t .plan) g₂ rhs₂ parent₂ k1₂ k2₂ place₂ list₂) n steps over) where
+        (F : Finished a (r .count) (tables (t .plan) g₁ rhs₁ parent₁ k1₁ k2₁ place₁ list₁) (tables (t .plan) g₂ rhs₂ parent₂ k1₂ k2₂ place₂ list₂) n steps over) where
       abbrev t₂ : Tables
       t₂ = tables (t .plan) g₂ rhs₂ parent₂ k1₂ k2₂ place₂ list₂
 
-      finished : Finished b t₁ t₂ n steps over
-      finished = subst (λ x. Finished x t₁ t₂ n steps over) aim-is F
+      finished : Finished b (r .count) t₁ t₂ n steps over
+      finished = subst (λ x. Finished x (r .count) t₁ t₂ n steps over) aim-is F
 
       ran-is : core t₂ ≡ ran .tables
       ran-is = finished .tables .is ∙ ap (λ T. run (huntTaken (graph s t) (session s) (core t)) (3 * cells s) T .tables) (H .tables-are)
@@ -224,6 +228,10 @@ module _ {s : Session} {t : Tables} (S : Sound s t) where
           heap = finished .tables .heap;
           shown = ew;
           caught = λ e. absurd (apart e);
+          untouched = λ h m e.
+              let f = F .untouched (steps-are ∙ ap (λ o. length (o .steps)) (sym search-is) ∙ ap length e) in
+              let k = K .untouched h m in
+              (f .0 ∙ k .0, f .1 ∙ k .1);
         }
 
         pub searched : {way way′ : List ℕ} {x : Answer} → Answers a over steps rhs₂ parent₂ way x way′

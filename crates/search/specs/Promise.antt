@@ -1,9 +1,10 @@
 -- What a search promises: its answer, the record, every table and the way list, for every input.
 use mathlib.Core.Path.{_≡_}
 use mathlib.Core.Logic.{_≢_}
-use mathlib.Core.List.{List, _++_}
+use mathlib.Core.List.{List, [], _++_}
 use Prim.Native.Nat.{ℕ, _≤_}
 use lib.ListN.{length, drop}
+use Rattle.method.specs.Numbers.{mostSearches}
 use Rattle.method.specs.Session as method
 use Rattle.queue.specs.Queue.{Heap}
 use Rattle.tables.specs.declared.Session.{Session}
@@ -25,7 +26,8 @@ outcome s t = method.search (graph s t) (session s) (core t)
 abbrev pub written : List ℕ → List ℕ → List ℕ
 written shown way = shown ++ drop (length shown) way
 
--- A search not refused: answer, record and tables are the method's, with a true heap; the plan and the size are as they were. A catch changes no table.
+-- A search not refused: answer, record and tables are the method's, with a true heap; the plan and the size are as they were. A catch changes no table. Nor does a search
+-- of no steps where the hunter stays and nothing starts fresh: list and places stay too. "Lent memory that no rule tells a call to write keeps its contents."
 pub record Searched (s : Session) (t : Tables) (way : List ℕ) (r : Outcome) (t′ : Tables) (way′ : List ℕ) : Type 0 where
   pub answer : r .answer ≡ answerOf (outcome s t .answer)
   pub wide : r .session .width ≡ s .width
@@ -36,6 +38,7 @@ pub record Searched (s : Session) (t : Tables) (way : List ℕ) (r : Outcome) (t
   pub heap : Heap (s .width) (cells s) (r .session .count) (t′ .k1) (t′ .k2) (t′ .place) (t′ .list)
   pub shown : way′ ≡ written (cellsOf (outcome s t .answer)) way
   pub caught : s .hunter ≡ s .target → (r .session ≡ s) × (t′ ≡ t)
+  pub untouched : s .hunter ≡ s .origin → s .searches ≢ mostSearches → outcome s t .steps ≡ [] → (r .session .count ≡ s .count) × (t′ ≡ t)
 
 -- A refused search returns the record as it came and changes no table.
 pub record Searches (s : Session) (t : Tables) (way : List ℕ) (r : Outcome) (t′ : Tables) (way′ : List ℕ) : Type 0 where

@@ -53,18 +53,19 @@ rest-more H T₀ T limit steps u R l e = record {
         left limit steps l = omega arith
 
 -- what holds between the steps
-pub record Going (a : Aim) (plan : List ℕ) (count : ℕ) (t₀ t : Tables) (limit steps : ℕ) : Type 0 where
+pub record Going (a : Aim) (plan : List ℕ) (count₀ count : ℕ) (t₀ t : Tables) (limit steps : ℕ) : Type 0 where
   pub held : Held a count t
   pub bound : ℕ
   pub during : During (hunt a plan) bound (core t)
   pub small : most (hunt a plan) bound ≤ mostG
   pub rest : Rest (hunt a plan) (core t₀) (core t) limit steps
+  pub untouched : steps ≡ 0 → (count ≡ count₀) × (t ≡ t₀)
 
 pub going-first : {a : Aim} {count : ℕ} {plan g rhs parent k1 k2 place list : List ℕ} (limit : ℕ) → Started a count (tables plan g rhs parent k1 k2 place list)
-    → Going a plan count (tables plan g rhs parent k1 k2 place list) (tables plan g rhs parent k1 k2 place list) limit 0
-going-first {a} {plan = plan} limit S = record { held = S .held; bound = S .bound; during = S .during; small = S .small; rest = rest-first (hunt a plan) _ limit }
+    → Going a plan count count (tables plan g rhs parent k1 k2 place list) (tables plan g rhs parent k1 k2 place list) limit 0
+going-first {a} {plan = plan} limit S = record { held = S .held; bound = S .bound; during = S .during; small = S .small; rest = rest-first (hunt a plan) _ limit; untouched = λ _. (refl, refl) }
 
-module _ {a : Aim} {count limit steps : ℕ} {t₀ : Tables} {plan g rhs parent k1 k2 place list : List ℕ} (A : Aimed a plan) (G : Going a plan count t₀ (tables plan g rhs parent k1 k2 place list) limit steps) where
+module _ {a : Aim} {count₀ count limit steps : ℕ} {t₀ : Tables} {plan g rhs parent k1 k2 place list : List ℕ} (A : Aimed a plan) (G : Going a plan count₀ count t₀ (tables plan g rhs parent k1 k2 place list) limit steps) where
   pub g-small : Small mostG g
   g-small = small-by g (area a) (G .held .sized .g) (λ k l. ⊎-elim (λ (e : getD g k 0 ≡ infinite). inl e) (λ (h : getD g k 0 + mostCost ≤ most (hunt a plan) (G .bound)). inr (omega (arith, G .small))) (g-most (G .during) k l))
 
@@ -91,36 +92,38 @@ module _ {a : Aim} {count limit steps : ℕ} {t₀ : Tables} {plan g rhs parent 
 
     pub going-more : {n : ℕ} {g′ rhs′ parent′ k1′ k2′ place′ list′ : List ℕ} → steps < limit
         → Became a n (tables plan g′ rhs′ parent′ k1′ k2′ place′ list′) (stepped (hunt a plan) (core (tables plan g rhs parent k1 k2 place list)) u)
-        → Going a plan n t₀ (tables plan g′ rhs′ parent′ k1′ k2′ place′ list′) limit (steps + 1)
+        → Going a plan count₀ n t₀ (tables plan g′ rhs′ parent′ k1′ k2′ place′ list′) limit (steps + 1)
     going-more l B = record {
       held = became-held (stepped-sized (G .held .sized) (hunt a plan) u) B;
       bound = G .bound;
       during = subst (During (hunt a plan) (G .bound)) (sym (B .is)) (during-step (G .during) next-on);
       small = G .small;
       rest = subst (λ T. Rest (hunt a plan) (core t₀) T limit (steps + 1)) (sym (B .is)) (rest-more (hunt a plan) (core t₀) (core (tables plan g rhs parent k1 k2 place list)) limit steps u (G .rest) l next-on);
+      untouched = λ e. absurd (omega (arith, e));
     }
 
-module _ {a : Aim} {count steps : ℕ} {plan g₀ rhs₀ parent₀ k1₀ k2₀ place₀ list₀ g rhs parent k1 k2 place list : List ℕ}
-    (G : Going a plan count (tables plan g₀ rhs₀ parent₀ k1₀ k2₀ place₀ list₀) (tables plan g rhs parent k1 k2 place list) (3 * area a) steps) where
+module _ {a : Aim} {count₀ count steps : ℕ} {plan g₀ rhs₀ parent₀ k1₀ k2₀ place₀ list₀ g rhs parent k1 k2 place list : List ℕ}
+    (G : Going a plan count₀ count (tables plan g₀ rhs₀ parent₀ k1₀ k2₀ place₀ list₀) (tables plan g rhs parent k1 k2 place list) (3 * area a) steps) where
   finished-by : {b : Bool} → run (hunt a plan) (3 * area a - steps) (core (tables plan g rhs parent k1 k2 place list)) .tables ≡ core (tables plan g rhs parent k1 k2 place list)
       → length (run (hunt a plan) (3 * area a - steps) (core (tables plan g rhs parent k1 k2 place list)) .steps) ≡ 0
       → run (hunt a plan) (3 * area a - steps) (core (tables plan g rhs parent k1 k2 place list)) .ended ≡ b
-      → Finished a (tables plan g₀ rhs₀ parent₀ k1₀ k2₀ place₀ list₀) (tables plan g rhs parent k1 k2 place list) count steps b
+      → Finished a count₀ (tables plan g₀ rhs₀ parent₀ k1₀ k2₀ place₀ list₀) (tables plan g rhs parent k1 k2 place list) count steps b
   finished-by et es ee = record {
     tables = record { is = sym (G .rest .tables ∙ et); heap = G .held .heap };
     steps-are = omega (arith, G .rest .steps-are, es);
     ended-is = sym (G .rest .ended ∙ ee);
+    untouched = G .untouched;
   }
 
   -- no next cell: the search has ended
-  pub finished-done : {r : Choice} → r ≡ Done → Chosen a g rhs k1 k2 place r → Finished a (tables plan g₀ rhs₀ parent₀ k1₀ k2₀ place₀ list₀) (tables plan g rhs parent k1 k2 place list) count steps true
+  pub finished-done : {r : Choice} → r ≡ Done → Chosen a g rhs k1 k2 place r → Finished a count₀ (tables plan g₀ rhs₀ parent₀ k1₀ k2₀ place₀ list₀) (tables plan g rhs parent k1 k2 place list) count steps true
   finished-done e C = finished-by (ap (λ r. r .tables) none-left) (ap (λ r. length (r .steps)) none-left) (ap (λ r. r .ended) none-left)
     where
       none-left : run (hunt a plan) (3 * area a - steps) (core (tables plan g rhs parent k1 k2 place list)) ≡ record { tables = core (tables plan g rhs parent k1 k2 place list); steps = []; ended = true }
       none-left = run-none (hunt a plan) (3 * area a - steps) (core (tables plan g rhs parent k1 k2 place list)) (sym (C plan parent list) ∙ ap nextOf e)
 
   -- the limit is reached and there is a next cell: the search was cut off
-  pub finished-cut : {u : ℕ} {r : Choice} → r ≡ On u → Chosen a g rhs k1 k2 place r → 3 * area a ≤ steps → Finished a (tables plan g₀ rhs₀ parent₀ k1₀ k2₀ place₀ list₀) (tables plan g rhs parent k1 k2 place list) count steps false
+  pub finished-cut : {u : ℕ} {r : Choice} → r ≡ On u → Chosen a g rhs k1 k2 place r → 3 * area a ≤ steps → Finished a count₀ (tables plan g₀ rhs₀ parent₀ k1₀ k2₀ place₀ list₀) (tables plan g rhs parent k1 k2 place list) count steps false
   unfolding isNone
   finished-cut {u} e C l = finished-by (ap (λ r. r .tables) cut) (ap (λ r. length (r .steps)) cut) (ap (λ r. r .ended) cut ∙ ap isNone (sym (C plan parent list) ∙ ap nextOf e))
     where

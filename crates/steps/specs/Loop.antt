@@ -18,7 +18,9 @@ pub record Started (a : Aim) (count : ℕ) (t : Tables) : Type 0 where
   pub small : most (hunt a (t .plan)) bound ≤ mostG
 
 -- What it leaves: the tables of the method's run of at most 3N steps, a true heap again, the number of those steps, and whether the search ended.
-pub record Finished (a : Aim) (t t′ : Tables) (count steps : ℕ) (ended : Bool) : Type 0 where
+pub record Finished (a : Aim) (count₀ : ℕ) (t t′ : Tables) (count steps : ℕ) (ended : Bool) : Type 0 where
   pub tables : Became a count t′ (run (hunt a (t .plan)) (3 * area a) (core t) .tables)
   pub steps-are : steps ≡ length (run (hunt a (t .plan)) (3 * area a) (core t) .steps)
   pub ended-is : ended ≡ run (hunt a (t .plan)) (3 * area a) (core t) .ended
+  -- no steps: no table is written, list and places neither
+  pub untouched : steps ≡ 0 → (count ≡ count₀) × (t′ ≡ t)

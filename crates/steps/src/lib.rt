@@ -192,7 +192,7 @@ pub fn run(
 ) -> Ran
     requires { ⌜ Aimed a (now plan) ⌝ }
     requires { ⌜ Started a count (given plan g rhs parent k1 k2 place list) ⌝ }
-    ensures { λ r. ⌜ Finished a (before plan g rhs parent k1 k2 place list) (after plan g rhs parent k1 k2 place list) (r .count) (r .steps) (r .ended) ⌝ }
+    ensures { λ r. ⌜ Finished a count (before plan g rhs parent k1 k2 place list) (after plan g rhs parent k1 k2 place list) (r .count) (r .steps) (r .ended) ⌝ }
 {
     let limit = 3 * (a.height * a.width);
     let mut n = count;

@@ -27,7 +27,7 @@ use Rattle.entries.specs.Became.{Became}
 use Rattle.entries.specs.Begin.{Openable, begun, Opened}
 use Rattle.entries.proofs.AimLaws.{aimed, became-of}
 use Rattle.entries.proofs.SmallLaws.{sound-small-g, sound-small-rhs}
-use Rattle.take_over.specs.TakeOver.{aimedAnew, handOver, Aiming, Handing, Holds}
+use Rattle.take_over.specs.TakeOver.{aimedAnew, handOver, Aiming, Handing, Holds, Takes}
 
 pub spot-placed : {width height cell : ℕ} {at : Spot} → Size width height → At width cell at → cell < height * width → Placed at
 spot-placed z a l = let q = placed z a l in record { row = q .0; column = q .1 }
@@ -125,32 +125,40 @@ module _ {s : Session} {t : Tables} (S : Sound s t) where
       })
 
   module _ {r : Session} {t′ : Tables} where
-    pub taken-late : s .searches ≡ 1000 → (r ≡ begun (s .width) (s .height) (s .hunter) (s .target)) × Opened (s .width) (s .height) (s .hunter) (s .target) t t′ → Holds s (calls.takenOver (graph s t) (session s) (core t)) r t′
+    pub taken-late : s .searches ≡ 1000 → (r ≡ begun (s .width) (s .height) (s .hunter) (s .target)) × Opened (s .width) (s .height) (s .hunter) (s .target) t t′ → Takes s t r t′
     unfolding calls.takenOver
-    taken-late e B = subst (λ m. Holds s m r t′) (sym (choose-yes (ℕ-discrete (s .searches) mostSearches) _ _ e)) (begun-holds B)
+    taken-late e B = record { holds = subst (λ m. Holds s m r t′) (sym (choose-yes (ℕ-discrete (s .searches) mostSearches) _ _ e)) (begun-holds B); untouched = λ _ n. absurd (n e) }
 
     module _ (early : s .searches ≢ 1000) where
-      pub taken-same : s .hunter ≡ s .origin → r ≡ aimedAnew s → t′ ≡ t → Holds s (calls.takenOver (graph s t) (session s) (core t)) r t′
+      pub taken-same : s .hunter ≡ s .origin → r ≡ aimedAnew s → t′ ≡ t → Takes s t r t′
       unfolding calls.takenOver
-      taken-same e er et =
-          subst (λ m. Holds s m r t′) (sym (choose-no (ℕ-discrete (s .searches) mostSearches) _ _ early ∙ choose-yes (ℕ-discrete (s .hunter) (s .origin)) _ _ e))
-          (subst (λ x. Holds s (record { session = calls.targetTaken (graph s t) (session s); tables = core t }) x t′) (sym er)
-          (subst (λ x. Holds s (record { session = calls.targetTaken (graph s t) (session s); tables = core t }) (aimedAnew s) x) (sym et)
-          (record { wide = refl; high = refl; record-is = refl; tables-are = refl; heap = S .heap })))
+      taken-same e er et = record {
+        holds =
+            subst (λ m. Holds s m r t′) (sym (choose-no (ℕ-discrete (s .searches) mostSearches) _ _ early ∙ choose-yes (ℕ-discrete (s .hunter) (s .origin)) _ _ e))
+            (subst (λ x. Holds s (record { session = calls.targetTaken (graph s t) (session s); tables = core t }) x t′) (sym er)
+            (subst (λ x. Holds s (record { session = calls.targetTaken (graph s t) (session s); tables = core t }) (aimedAnew s) x) (sym et)
+            (record { wide = refl; high = refl; record-is = refl; tables-are = refl; heap = S .heap })));
+        untouched = λ _ _. (ap (λ (x : Session). x .count) er, et);
+      }
 
       pub taken-far : s .hunter ≢ s .origin → getD (t .rhs) (s .hunter) 0 ≡ infinite → (r ≡ begun (s .width) (s .height) (s .hunter) (s .target)) × Opened (s .width) (s .height) (s .hunter) (s .target) t t′
-          → Holds s (calls.takenOver (graph s t) (session s) (core t)) r t′
+          → Takes s t r t′
       unfolding calls.takenOver
-      taken-far n e B =
-          subst (λ m. Holds s m r t′)
-          (sym (choose-no (ℕ-discrete (s .searches) mostSearches) _ _ early ∙ choose-no (ℕ-discrete (s .hunter) (s .origin)) _ _ n ∙ choose-yes (ℕ-discrete (getD (t .rhs) (s .hunter) 0) infinite) _ _ e))
-          (begun-holds B)
+      taken-far n e B = record {
+        holds =
+            subst (λ m. Holds s m r t′)
+            (sym (choose-no (ℕ-discrete (s .searches) mostSearches) _ _ early ∙ choose-no (ℕ-discrete (s .hunter) (s .origin)) _ _ n ∙ choose-yes (ℕ-discrete (getD (t .rhs) (s .hunter) 0) infinite) _ _ e))
+            (begun-holds B);
+        untouched = λ h _. absurd (n h);
+      }
 
-      pub taken-new : {m : Session} → s .hunter ≢ s .origin → getD (t .rhs) (s .hunter) 0 ≢ infinite → m ≡ aimedAnew s → Holds m (handOver m t) r t′
-          → Holds s (calls.takenOver (graph s t) (session s) (core t)) r t′
+      pub taken-new : {m : Session} → s .hunter ≢ s .origin → getD (t .rhs) (s .hunter) 0 ≢ infinite → m ≡ aimedAnew s → Holds m (handOver m t) r t′ → Takes s t r t′
       unfolding calls.takenOver
-      taken-new n f e H =
-          let h = subst (λ x. Holds x (handOver x t) r t′) e H in
-          subst (λ m. Holds s m r t′)
-          (sym (choose-no (ℕ-discrete (s .searches) mostSearches) _ _ early ∙ choose-no (ℕ-discrete (s .hunter) (s .origin)) _ _ n ∙ choose-no (ℕ-discrete (getD (t .rhs) (s .hunter) 0) infinite) _ _ f))
-          (record { wide = h .wide; high = h .high; record-is = h .record-is; tables-are = h .tables-are; heap = h .heap })
+      taken-new n f e H = record {
+        holds =
+            let h = subst (λ x. Holds x (handOver x t) r t′) e H in
+            subst (λ m. Holds s m r t′)
+            (sym (choose-no (ℕ-discrete (s .searches) mostSearches) _ _ early ∙ choose-no (ℕ-discrete (s .hunter) (s .origin)) _ _ n ∙ choose-no (ℕ-discrete (getD (t .rhs) (s .hunter) 0) infinite) _ _ f))
+            (record { wide = h .wide; high = h .high; record-is = h .record-is; tables-are = h .tables-are; heap = h .heap });
+        untouched = λ h _. absurd (n h);
+      }

@@ -1,8 +1,10 @@
 -- Taking over: what each function rests on, and the method's state that it leaves.
 use mathlib.Core.Path.{_≡_}
+use mathlib.Core.Logic.{_≢_}
 use Prim.Native.Nat.{_+_, _≤_, _<_}
+use Rattle.method.specs.Numbers.{mostSearches}
 use Rattle.method.specs.Tables.{Sized}
-use Rattle.method.specs.Session.{State, huntOf, hunterTaken, handedOver}
+use Rattle.method.specs.Session.{State, huntOf, hunterTaken, handedOver, takenOver}
 use Rattle.queue.specs.Queue.{Heap}
 use Rattle.plan.specs.Cells.{Size, estimate}
 use Rattle.plan.specs.Costs.{Obeys}
@@ -17,6 +19,11 @@ pub record Holds (s : Session) (m : State) (r : Session) (t : Tables) : Type 0 w
   pub record-is : session r ≡ m .session
   pub tables-are : core t ≡ m .tables
   pub heap : Heap (s .width) (cells s) (r .count) (t .k1) (t .k2) (t .place) (t .list)
+
+-- What taking over leaves of the record s and the tables t: the method's state. Where the hunter stays and nothing starts fresh, no table is written, list and places neither.
+pub record Takes (s : Session) (t : Tables) (r : Session) (t′ : Tables) : Type 0 where
+  pub holds : Holds s (takenOver (graph s t) (session s) (core t)) r t′
+  pub untouched : s .hunter ≡ s .origin → s .searches ≢ mostSearches → (r .count ≡ s .count) × (t′ ≡ t)
 
 -- The target can be taken over: both targets are in the plan, and km leaves room for one more estimate.
 pub record Aiming (s : Session) : Type 0 where

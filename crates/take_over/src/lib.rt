@@ -4,10 +4,9 @@ use plan;
 use tables;
 use tables::Session;
 ghost use mathlib.Core.Path.{_≡_};
-ghost use Rattle.method.specs.Session.{takenOver};
-ghost use Rattle.tables.specs.Lent.{given, before, after, graph, session, core};
+ghost use Rattle.tables.specs.Lent.{given, before, after};
 ghost use Rattle.tables.specs.Sound.{Sound};
-ghost use Rattle.take_over.specs.TakeOver.{aimedAnew, handOver, Aiming, Handing, Holds};
+ghost use Rattle.take_over.specs.TakeOver.{aimedAnew, handOver, Aiming, Handing, Holds, Takes};
 
 // The target taken over: km grows by the estimate between old and new target.
 fn target_taken(s: Session) -> Session
@@ -73,7 +72,7 @@ pub fn take_over(
     list: &mut [u16],
 ) -> Session
     requires { ⌜ Sound s (given plan g rhs parent k1 k2 place list) ⌝ }
-    ensures { λ r. ⌜ Holds s (takenOver (graph s (before plan g rhs parent k1 k2 place list)) (session s) (core (before plan g rhs parent k1 k2 place list))) r (after plan g rhs parent k1 k2 place list) ⌝ }
+    ensures { λ r. ⌜ Takes s (before plan g rhs parent k1 k2 place list) r (after plan g rhs parent k1 k2 place list) ⌝ }
 {
     if s.searches == 1000 {
         return entries::begin(

@@ -10,7 +10,7 @@ use Rattle.steps.proofs.run.Statement.{statement}
 use Rattle.steps.proofs.run.Tie as tie
 
 abbrev Inv-loop : tie.InvT-loop
-Inv-loop a plan g₀ rhs₀ parent₀ k1₀ k2₀ place₀ list₀ count limit n₀ steps₀ g rhs parent k1 k2 place list n steps = Going a plan n (tables plan g₀ rhs₀ parent₀ k1₀ k2₀ place₀ list₀) (tables plan g rhs parent k1 k2 place list) limit steps
+Inv-loop a plan g₀ rhs₀ parent₀ k1₀ k2₀ place₀ list₀ count limit n₀ steps₀ g rhs parent k1 k2 place list n steps = Going a plan count n (tables plan g₀ rhs₀ parent₀ k1₀ k2₀ place₀ list₀) (tables plan g rhs parent k1 k2 place list) limit steps
 
 abbrev μ-loop : tie.MeasureT-loop
 μ-loop a plan g₀ rhs₀ parent₀ k1₀ k2₀ place₀ list₀ count limit n₀ steps₀ g rhs parent k1 k2 place list n steps = limit - steps

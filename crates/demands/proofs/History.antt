@@ -1,0 +1,129 @@
+-- Every history of public calls: sound tables at every point, right answers in few steps at every search, no number past its width. specs/History.antt says what this means.
+use mathlib.Core.Path.{_≡_, sym, ap, subst, _∙_}
+use mathlib.Core.Logic.{_⊎_, inl, inr, _≢_}
+use mathlib.Core.List.{List}
+use Prim.Native.Nat.{ℕ, _+_, _*_, _≤_, _<_}
+use native.Mathlib.Omega.{arith}
+use native.Mathlib.Decide.{ℕ-discrete}
+use lib.ListN.{length}
+use Rattle.method.specs.Numbers.{infinite, mostCost, mostSearches, growth}
+use Rattle.method.specs.Graph.{Graph, GraphLaws}
+use Rattle.method.specs.Tables as tables
+use Rattle.method.specs.Session as calls
+use Rattle.method.specs.Sound as method-sound
+use Rattle.method.proofs.Theorems as method
+use Rattle.plan.proofs.GridLaws.{graph-laws}
+use Rattle.tables.specs.declared.Session.{Session}
+use Rattle.tables.specs.Lent.{Tables, cells, floor, graph, session, core}
+use Rattle.tables.specs.Sound.{Sound}
+use Rattle.session.specs.declared.Answer.the-variants.{Done}
+use Rattle.session.specs.declared.Reply.{Reply}
+use Rattle.session.specs.Refusals.{answered}
+use Rattle.session.specs.Promises.{Opens}
+use Rattle.session.proofs.Theorems.{opened-sound, hunter-placed-sound, target-placed-sound}
+use Rattle.change.proofs.Theorems.{change-keeps-sound}
+use Rattle.search.specs.declared.Outcome.{Outcome}
+use Rattle.search.specs.Promise.{Searches}
+use Rattle.search.proofs.RefusalLaws.{search-granted}
+use Rattle.demands.specs.History.{Call, places-hunter, places-target, changes-move, searches, opens-again, open-refused, History, opened, from-sound, and-then, Point, now, before, PointOf, Search, last, earlier, SearchOf, NumbersFit, afterSteps, EveryOrder}
+use Rattle.demands.proofs.Demands.{demand-2, demand-3}
+use Rattle.demands.proofs.Growth.{raises-at-most}
+
+-- ---- sound tables
+
+-- A search keeps sound tables sound, done or refused.
+search-keeps-sound : {s : Session} {t t′ : Tables} {way way′ : List ℕ} {r : Outcome} → Sound s t → Searches s t way r t′ way′ → Sound (r .session) t′
+search-keeps-sound {s} {t} {t′} {way} {way′} {r} S P = at (ℕ-discrete (P .number) 0)
+  where
+    at : Dec (P .number ≡ 0) → Sound (r .session) t′
+    at (yes z) = demand-3 S way (search-granted way (P .rules) z .1) P .sound-again
+    at (no n) = let q = P .refused n in subst (λ x. Sound x t′) (sym (q .1)) (subst (λ x. Sound s x) (sym (q .2)) S)
+
+-- An open that is refused keeps the tables.
+open-keeps : {width height hunter target : ℕ} {t t′ : Tables} {r : Reply} → Opens width height hunter target t r t′ → r .answer ≢ Done → t′ ≡ t
+open-keeps P n = P .refused (λ z. n (P .answer ∙ ap answered z)) .1
+
+-- So does every call ..
+pub call-keeps-sound : {s s′ : Session} {t t′ : Tables} → Sound s t → Call s t s′ t′ → Sound s′ t′
+call-keeps-sound S (places-hunter P) = hunter-placed-sound S P
+call-keeps-sound S (places-target P) = target-placed-sound S P
+call-keeps-sound S (changes-move P) = change-keeps-sound S P
+call-keeps-sound S (searches P) = search-keeps-sound S P
+call-keeps-sound S (opens-again P e) = opened-sound P e
+call-keeps-sound {s} S (open-refused P n) = subst (λ x. Sound s x) (sym (open-keeps P n)) S
+
+-- .. and every history.
+pub history-sound : {s : Session} {t : Tables} → History s t → Sound s t
+history-sound (opened P e) = opened-sound P e
+history-sound (from-sound S) = S
+history-sound (and-then h c) = call-keeps-sound (history-sound h) c
+
+-- The history up to a point of it is a history; a search of it starts at a point of it.
+up-to : {s s₁ : Session} {t t₁ : Tables} {h : History s t} → PointOf h s₁ t₁ → History s₁ t₁
+up-to {h = h} now = h
+up-to (before p) = up-to p
+
+point-of : {s s₁ : Session} {t t₁ t₂ : Tables} {h : History s t} {way way₂ : List ℕ} {r : Outcome} → SearchOf h s₁ t₁ way r t₂ way₂ → PointOf h s₁ t₁
+point-of (last P) = before now
+point-of (earlier x) = before (point-of x)
+
+promise-of : {s s₁ : Session} {t t₁ t₂ : Tables} {h : History s t} {way way₂ : List ℕ} {r : Outcome} → SearchOf h s₁ t₁ way r t₂ way₂ → Searches s₁ t₁ way r t₂ way₂
+promise-of (last P) = P
+promise-of (earlier x) = promise-of x
+
+-- ---- numbers
+
+module _ {G : Graph} (L : GraphLaws G) {σ : calls.Session} {T : tables.Tables} (S : method-sound.Sound G σ T) where
+  sum-fit : (x cost : ℕ) → x < G .cells → cost ≤ mostCost → (tables.gAt T x ≡ infinite) ⊎ (tables.gAt T x + cost < infinite)
+  sum-fit x cost l h = at (ℕ-discrete (tables.gAt T x) infinite)
+    where
+      at : Dec (tables.gAt T x ≡ infinite) → (tables.gAt T x ≡ infinite) ⊎ (tables.gAt T x + cost < infinite)
+      at (yes e) = inl e
+      at (no n) = inr (method.sum-below L S x cost l n h)
+
+  rhs-fit : (x : ℕ) → (tables.rhsAt T x ≡ infinite) ⊎ (tables.rhsAt T x ≤ growth * σ .searches + mostCost) → (tables.rhsAt T x ≡ infinite) ⊎ (tables.rhsAt T x ≤ growth * mostSearches + mostCost)
+  rhs-fit x (inl e) = inl e
+  rhs-fit x (inr h) = inr (omega (arith, S .searches-le))
+
+  -- the lesser number is infinite or below
+  key-fit : (x : ℕ) → x < G .cells → (tables.rhsAt T x ≡ infinite) ⊎ (tables.rhsAt T x ≤ growth * mostSearches + mostCost)
+      → (tables.lesser T x ≡ infinite) ⊎ (tables.lesser T x + G .estimate x (σ .lastTarget) + σ .km < infinite)
+  key-fit x l r = at r (S .g-le x l) (ℕ-discrete (tables.lesser T x) infinite)
+    where
+      at : (tables.rhsAt T x ≡ infinite) ⊎ (tables.rhsAt T x ≤ growth * mostSearches + mostCost) → (tables.gAt T x ≡ infinite) ⊎ (tables.gAt T x ≤ growth * σ .searches)
+          → Dec (tables.lesser T x ≡ infinite) → (tables.lesser T x ≡ infinite) ⊎ (tables.lesser T x + G .estimate x (σ .lastTarget) + σ .km < infinite)
+      at a b (yes e) = inl e
+      at (inl a) (inl b) (no n) = inr (method.key-below L S x l (omega (arith, n)))
+      at (inl a) (inr b) (no n) = inr (method.key-below L S x l (omega (arith, n, S .searches-le)))
+      at (inr a) b (no n) = inr (method.key-below L S x l (omega (arith, n)))
+
+  pub numbers-fit : NumbersFit G σ T
+  numbers-fit = record {
+    sum = sum-fit;
+    rhs = λ x l. rhs-fit x (method.rhs-below L S x l);
+    key = λ x l. key-fit x l (rhs-fit x (method.rhs-below L S x l));
+    stored = λ x l q. method.queued-below L S x l q .2;
+    km = omega (arith, S .km-le, S .searches-le);
+    searches = S .searches-le;
+  }
+
+-- ---- every order
+
+laws-of : {s : Session} {t : Tables} → Sound s t → GraphLaws (graph s t)
+laws-of {s} {t} S = graph-laws (floor s (t .plan)) (S .plan .size)
+
+sound-fit : {s : Session} {t : Tables} → Sound s t → NumbersFit (graph s t) (session s) (core t)
+sound-fit S = numbers-fit (laws-of S) (S .numbers)
+
+steps-fit : {s : Session} {t : Tables} → Sound s t → (n : ℕ) → NumbersFit (graph s t) (calls.counted (calls.takenOver (graph s t) (session s) (core t) .session)) (afterSteps s t n)
+steps-fit S n = numbers-fit (laws-of S) (method.every-step-sound (laws-of S) (S .numbers) n)
+
+pub every-order : {s : Session} {t : Tables} (h : History s t) → EveryOrder h
+every-order h = record {
+  sound = λ p. history-sound (up-to p);
+  numbers = λ p. sound-fit (history-sound (up-to p));
+  right = λ {s₁} {t₁} {t₂} {way} x room. demand-2 (history-sound (up-to (point-of x))) way room (promise-of x);
+  few = λ {s₁} {t₁} {t₂} {way} x room. demand-3 (history-sound (up-to (point-of x))) way room (promise-of x);
+  raises = λ {s₁} {t₁} {t₂} {way} x. raises-at-most way (promise-of x);
+  between = λ x n. steps-fit (history-sound (up-to (point-of x))) n;
+}
