@@ -1,6 +1,6 @@
 -- A cell's entry set right, way by way.
-use mathlib.Core.Path.{_≡_, refl, sym, _∙_}
-use mathlib.Core.Bool.{Bool, true, false}
+use mathlib.Core.Path.{_≡_, refl, sym, ap, _∙_}
+use mathlib.Core.Bool.{Bool, true, false, true≢false, false≢true}
 use mathlib.Core.Logic.{_≢_}
 use mathlib.Core.List.{List}
 use Prim.Native.Nat.{ℕ, _+_, _<_, min}
@@ -11,7 +11,9 @@ use Rattle.method.specs.Numbers.{infinite}
 use Rattle.method.specs.Tables as method
 use Rattle.method.proofs.Choices.{choose-yes, choose-no}
 use Rattle.method.proofs.Entries.{first-finite}
-use Rattle.queue.specs.Queue.{absent, Heap, Changed}
+use lib.Seq.{getD-set-same}
+use Rattle.queue.specs.Queue.{absent, members, Heap, Changed, SameKeys}
+use Rattle.queue.proofs.MemberLaws.{missing, length-members, member-at, place-member}
 use Rattle.queue.proofs.QueueLaws.{heap-as, absent-stays}
 use Rattle.plan.specs.Cells.{Stands, estimate}
 use Rattle.plan.specs.Reached.{At, Placed, between}
@@ -22,7 +24,7 @@ use Rattle.tables.specs.Lent.{tables, core}
 use Rattle.tables.proofs.WalkLaws.{estimate-at}
 use Rattle.entries.specs.declared.Aim.{Aim}
 use Rattle.entries.specs.Aims.{area, hunt}
-use Rattle.entries.specs.Became.{Entering, Entered}
+use Rattle.entries.specs.Became.{Entering, Entered, EntryKept}
 
 -- The target's spot.
 abbrev pub goalSpot : Aim → Spot
@@ -46,6 +48,9 @@ module _ {a : Aim} {count cell : ℕ} {at : Spot} {g rhs k1 k2 place list : List
   -- the key of a cell to be queued fits
   pub key-room : {m : ℕ} → getD g cell 0 ≢ getD rhs cell 0 → m ≡ min (getD g cell 0) (getD rhs cell 0) → m + between at (goalSpot a) + a .km < infinite
   key-room n e = omega (arith, E .fits n, e, estimate-is, estimate-le (E .size) cell (a .target) (E .inside) (E .target-in))
+
+  place-long : cell < length place
+  place-long = omega (arith, E .inside, E .heap .tables .agree .lengthPlace)
 
   -- the heap, as the queue's calls take it
   pub heap-here : Heap (a .width) (length list) count k1 k2 place list
@@ -71,15 +76,40 @@ module _ {a : Aim} {count cell : ℕ} {at : Spot} {g rhs k1 k2 place list : List
         → Entered a cell g rhs k1 k2 place list r k1′ k2′ place′ list′
     right-out C = entered-by (E .heap .tables .agree .lengthList) C leaves
 
-  -- g and rhs differ: the cell is to be queued under its key
-  pub right-in : {r m first : ℕ} {k1′ k2′ place′ list′ : List ℕ} → getD g cell 0 ≢ getD rhs cell 0 → m ≡ min (getD g cell 0) (getD rhs cell 0)
-      → first ≡ m + between at (goalSpot a) + a .km → Changed (a .width) (length list) r cell first m true k1 k2 place k1′ k2′ place′ list′
-      → Entered a cell g rhs k1 k2 place list r k1′ k2′ place′ list′
-  unfolding method.setRight method.enter
-  right-in {r} {m} {first} n em ef C = entered-by (E .heap .tables .agree .lengthList) C enters
-    where
-      first-is : (plan : List ℕ) → method.firstKey (hunt a plan) cell (min (getD g cell 0) (getD rhs cell 0)) ≡ first
-      first-is = first-key-is a (E .stands) (E .target-at) (omega (arith, E .fits n)) (omega (arith, em, ef))
+    -- an absent cell stays absent: nothing is written
+    pub kept-absent : EntryKept a cell g rhs k1 k2 place list count count place list
+    kept-absent plan parent _ = (refl, refl, refl)
 
-      enters : (plan parent : List ℕ) → method.withEntry (core (tables plan g rhs parent k1 k2 place list)) cell first m true ≡ method.setRight (hunt a plan) (core (tables plan g rhs parent k1 k2 place list)) cell
-      enters plan parent = rw (← first-is plan, em) (sym (choose-no (ℕ-discrete (getD g cell 0) (getD rhs cell 0)) _ _ n))
+    -- a queued cell is taken out: its entry was not right
+    pub kept-out : {r : ℕ} {place′ list′ : List ℕ} → getD place cell 0 ≢ absent → EntryKept a cell g rhs k1 k2 place list count r place′ list′
+    kept-out o plan parent s =
+        let q = ap (λ (T : method.Tables). getD (T .queued) cell false) (leaves plan parent ∙ s) in
+        absurd (false≢true (sym (getD-set-same (members place) cell false false (omega (arith, length-members place, place-long))) ∙ q ∙ place-member place cell (omega (arith, place-long)) o))
+
+  -- g and rhs differ: the cell is to be queued under its key
+  module _ {m first : ℕ} (n : getD g cell 0 ≢ getD rhs cell 0) (em : m ≡ min (getD g cell 0) (getD rhs cell 0)) (ef : first ≡ m + between at (goalSpot a) + a .km) where
+    first-is : (plan : List ℕ) → method.firstKey (hunt a plan) cell (min (getD g cell 0) (getD rhs cell 0)) ≡ first
+    first-is = first-key-is a (E .stands) (E .target-at) (omega (arith, E .fits n)) (omega (arith, em, ef))
+
+    enters : (plan parent : List ℕ) → method.withEntry (core (tables plan g rhs parent k1 k2 place list)) cell first m true ≡ method.setRight (hunt a plan) (core (tables plan g rhs parent k1 k2 place list)) cell
+    unfolding method.setRight method.enter
+    enters plan parent = rw (← first-is plan, em) (sym (choose-no (ℕ-discrete (getD g cell 0) (getD rhs cell 0)) _ _ n))
+
+    pub right-in : {r : ℕ} {k1′ k2′ place′ list′ : List ℕ} → Changed (a .width) (length list) r cell first m true k1 k2 place k1′ k2′ place′ list′
+        → Entered a cell g rhs k1 k2 place list r k1′ k2′ place′ list′
+    right-in C = entered-by (E .heap .tables .agree .lengthList) C enters
+
+    -- an absent cell is put in: its entry was not right
+    pub kept-in : {r : ℕ} {place′ list′ : List ℕ} → getD place cell 0 ≡ absent → EntryKept a cell g rhs k1 k2 place list count r place′ list′
+    kept-in o plan parent s =
+        let q = ap (λ (T : method.Tables). getD (T .queued) cell false) (enters plan parent ∙ s) in
+        absurd (true≢false (sym (getD-set-same (members place) cell true false (omega (arith, length-members place, place-long))) ∙ q ∙ member-at place cell (omega (arith, place-long)) ∙ missing o))
+
+    -- a queued cell under the keys that it has: the queue writes neither list nor places
+    pub kept-under : {place′ list′ : List ℕ} → SameKeys cell first m k1 k2 place list place′ list′ → EntryKept a cell g rhs k1 k2 place list count count place′ list′
+    kept-under f plan parent s =
+        let e = enters plan parent ∙ s in
+        let one = ap (λ (T : method.Tables). getD (T .k1) cell 0) e in
+        let two = ap (λ (T : method.Tables). getD (T .k2) cell 0) e in
+        let k = f (sym one ∙ getD-set-same k1 cell first 0 (omega (arith, E .inside, E .heap .tables .length1))) (sym two ∙ getD-set-same k2 cell m 0 (omega (arith, E .inside, E .heap .tables .length2))) in
+        (refl, k .0, k .1)

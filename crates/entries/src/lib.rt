@@ -17,7 +17,7 @@ ghost use Rattle.plan.specs.Reached.{At, Placed, between};
 ghost use Rattle.tables.specs.Lent.{core, given, before, after, Fits};
 ghost use Rattle.entries.specs.Aims.{area, floor, hunt, AimOf, Aimed, Held, Small, mostG, mostRhs};
 ghost use Rattle.entries.specs.Begin.{Openable, begun, Opened};
-ghost use Rattle.entries.specs.Became.{Became, Entering, Entered, foundOf};
+ghost use Rattle.entries.specs.Became.{Became, Entering, Entered, EntryKept, foundOf};
 
 // What a search goes by: the plan's size, the hunter and the target taken over, the target's row and column, and km.
 pub struct Aim {
@@ -75,6 +75,7 @@ pub fn set_right(
 ) -> usize
     requires { ⌜ Entering a count cell at (now g) (now rhs) (now k1) (now k2) (now place) (now list) ⌝ }
     ensures { λ r. ⌜ Entered a cell (now (g .entry)) (now (rhs .entry)) (now (k1 .entry)) (now (k2 .entry)) (now (place .entry)) (now (list .entry)) r (now (k1 .exit)) (now (k2 .exit)) (now (place .exit)) (now (list .exit)) ⌝ }
+    ensures { λ r. ⌜ EntryKept a cell (now (g .entry)) (now (rhs .entry)) (now (k1 .entry)) (now (k2 .entry)) (now (place .entry)) (now (list .entry)) count r (now (place .exit)) (now (list .exit)) ⌝ }
 {
     let x = g[cell];
     let y = rhs[cell];

@@ -1,14 +1,14 @@
 -- The queue's calls on the tables: what their first stores leave, and what the tables are once the entry has settled.
-use mathlib.Core.Path.{_≡_, refl, sym, ap, _∙_}
+use mathlib.Core.Path.{_≡_, refl, sym, ap, subst, _∙_}
 use mathlib.Core.Bool.{Bool, true, false}
 use mathlib.Core.List.{List}
 use Prim.Native.Nat.{ℕ, _+_, _-_, _≤_, _<_}
 use native.Mathlib.Omega.{arith}
 use lib.ListN.{getD, set, length, length-set}
-use lib.Seq.{getD-set-same, getD-set-other}
+use lib.Seq.{getD-set-same, getD-set-other, set-getD}
 use Rattle.queue.specs.Order.{before}
-use Rattle.queue.specs.Queue.{absent, members, Agree, Tables, Ordered, Heap, Changed, LeastOf}
-use Rattle.queue.specs.Sift.{Loose, placeAfter, listAfter}
+use Rattle.queue.specs.Queue.{absent, members, Agree, Tables, Ordered, Heap, Changed, SameKeys, LeastOf}
+use Rattle.queue.specs.Sift.{Loose, KeepsHeap, placeAfter, listAfter}
 use Rattle.queue.proofs.CaseLaws.{split}
 use Rattle.queue.proofs.OrderLaws.{before-order, before-set}
 use Rattle.queue.proofs.HeapLaws.{Swapped, reset, grow, root}
@@ -51,6 +51,13 @@ module _ {width room count m c first second : ℕ} {q : Bool} {k1 k2 place list 
           ordered = o;
         };
       }
+
+-- Under the keys that a cell has the order is as it was, so nothing moves.
+pub same-keys : (c first second : ℕ) {width room count : ℕ} {k1 k2 place list place′ list′ : List ℕ} → Heap width room count k1 k2 place list
+    → KeepsHeap (before width (set k1 c first) (set k2 c second)) count place list place′ list′ → SameKeys c first second k1 k2 place list place′ list′
+same-keys c first second {width} {count = count} {k1 = k1} {k2 = k2} {list = list} h keeps e f =
+    keeps (subst (λ (k : List ℕ). Ordered (before width k (set k2 c second)) count list) (sym (ap (set k1 c) (sym e) ∙ set-getD k1 c 0))
+    (subst (λ (k : List ℕ). Ordered (before width k1 k) count list) (sym (ap (set k2 c) (sym f) ∙ set-getD k2 c 0)) (h .ordered)))
 
 -- ---- before it has
 

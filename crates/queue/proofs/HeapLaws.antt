@@ -1,13 +1,13 @@
 -- The list as a binary heap, over any order: what one exchange keeps on the way up and on the way down, and that nothing comes before the first entry.
-use mathlib.Core.Path.{_≡_, subst}
-use mathlib.Core.Bool.{Bool, true, false}
+use mathlib.Core.Path.{_≡_, sym, ap, subst, _∙_}
+use mathlib.Core.Bool.{Bool, true, false, true≢false}
 use mathlib.Core.List.{List}
 use Prim.Native.Nat.{ℕ, zero, suc, _+_, _-_, _/_, _≤_, _<_}
 use native.Mathlib.Omega.{arith}
 use lib.ListN.{getD}
 use Rattle.queue.specs.Order.{Order}
 use Rattle.queue.specs.Queue.{Under, Ordered}
-use Rattle.queue.specs.Sift.{Loose, Low, Lesser}
+use Rattle.queue.specs.Sift.{Loose, Low, KeepsHeap, Lesser}
 use Rattle.queue.proofs.CaseLaws.{split}
 use Rattle.queue.proofs.OrderLaws.{one-way, not-before}
 
@@ -20,6 +20,19 @@ pub record Two (l m : List ℕ) (i j u v : ℕ) : Type 0 where
 -- Places i and j have exchanged their entries.
 abbrev pub Swapped : ℕ → ℕ → List ℕ → List ℕ → Type 0
 Swapped i j l m = Two l m i j (getD l j 0) (getD l i 0)
+
+-- A true heap has nothing to exchange: where an entry comes before the one that it is right under, the list was none.
+pub keep-more : {lt : ℕ → ℕ → Bool} {count i p : ℕ} {place₀ list₀ place list place′ list′ : List ℕ} → KeepsHeap lt count place₀ list₀ place list → Under p i → i < count
+    → lt (getD list i 0) (getD list p 0) ≡ true → KeepsHeap lt count place₀ list₀ place′ list′
+keep-more {lt} {count} {i} {p} k u d h o =
+    absurd (true≢false (sym h ∙ ap (λ (l : List ℕ). lt (getD l i 0) (getD l p 0)) (k o .1) ∙ o .holds p i u d))
+
+pub keep-both : {lt : ℕ → ℕ → Bool} {count : ℕ} {place₀ list₀ place list place′ list′ : List ℕ} → KeepsHeap lt count place₀ list₀ place list → KeepsHeap lt count place list place′ list′
+    → KeepsHeap lt count place₀ list₀ place′ list′
+keep-both {lt} {count} a b o =
+    let q = a o in
+    let r = b (subst (λ (l : List ℕ). Ordered lt count l) (sym (q .1)) o) in
+    (r .0 ∙ q .0, r .1 ∙ q .1)
 
 -- The place above place i.
 pub above : {i : ℕ} → 0 < i → Under ((i - 1) / 2) i

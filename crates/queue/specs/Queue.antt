@@ -69,6 +69,10 @@ pub record Changed (width room count cell first second : ℕ) (queued : Bool) (k
   pub membership : members place′ ≡ set (members place) cell queued
   pub heap : Heap width room count k1′ k2′ place′ list′
 
+-- A queued cell that is put under the keys that it has: list and places stay as they are, order and all.
+abbrev pub SameKeys : (cell first second : ℕ) → List ℕ → List ℕ → List ℕ → List ℕ → List ℕ → List ℕ → Type 0
+SameKeys cell first second k1 k2 place list place′ list′ = getD k1 cell 0 ≡ first → getD k2 cell 0 ≡ second → (place′ ≡ place) × (list′ ≡ list)
+
 -- `cell` is queued, and no queued cell comes before it. There is one such cell: `least-only` in proofs/QueueLaws.antt.
 pub record Least (width : ℕ) (k1 k2 : List ℕ) (queued : List Bool) (cell : ℕ) : Type 0 where
   pub member : getD queued cell false ≡ true

@@ -4,7 +4,7 @@ use mathlib.Core.Bool.{Bool, false}
 use mathlib.Core.List.{List}
 use Prim.Native.Nat.{ℕ, _≤_, _<_}
 use lib.ListN.{getD, set, length}
-use Rattle.queue.specs.Queue.{Under}
+use Rattle.queue.specs.Queue.{Under, Ordered}
 
 -- The list is a binary heap but for the entry at place i, which may belong higher or lower.
 pub record Loose (lt : ℕ → ℕ → Bool) (count i : ℕ) (list : List ℕ) : Type 0 where
@@ -17,6 +17,10 @@ pub record Loose (lt : ℕ → ℕ → Bool) (count i : ℕ) (list : List ℕ) :
 pub record Low (lt : ℕ → ℕ → Bool) (count i : ℕ) (list : List ℕ) : Type 0 where
   pub loose : Loose lt count i list
   pub up : (x : ℕ) → Under x i → lt (getD list i 0) (getD list x 0) ≡ false
+
+-- A list that is a binary heap already stays as it is, and so do the places.
+abbrev pub KeepsHeap : (ℕ → ℕ → Bool) → ℕ → List ℕ → List ℕ → List ℕ → List ℕ → Type 0
+KeepsHeap lt count place list place′ list′ = Ordered lt count list → (place′ ≡ place) × (list′ ≡ list)
 
 -- The two tables after the entries at places i and j were exchanged.
 abbrev pub placeAfter : ℕ → ℕ → List ℕ → List ℕ → List ℕ

@@ -6,9 +6,9 @@ ghost use Prim.Native.Nat.{_+_, _<_, _≤_};
 ghost use lib.ListN.{length, getD};
 ghost use Rattle.decide.specs.Decides.{Decides};
 ghost use Rattle.queue.specs.Order.{before, tied};
-ghost use Rattle.queue.specs.Queue.{absent, members, Tables, Ordered, Heap, Changed, LeastOf};
+ghost use Rattle.queue.specs.Queue.{absent, members, Tables, Ordered, Heap, Changed, SameKeys, LeastOf};
 ghost use Rattle.queue.specs.Rules.{EntryRule, Lengths};
-ghost use Rattle.queue.specs.Sift.{Loose, Low, placeAfter, listAfter, Keyed, Compares, Lesser};
+ghost use Rattle.queue.specs.Sift.{Loose, Low, KeepsHeap, placeAfter, listAfter, Keyed, Compares, Lesser};
 
 // The place of a cell that is not queued, and the content of an unused place of the list.
 pub const ABSENT: u16 = 65535;
@@ -93,6 +93,7 @@ fn sift_up(
     ensures { λ _. ⌜ Tables width (length (now (list .entry))) count (now (k1 .entry)) (now (k2 .entry)) (now (place .exit)) (now (list .exit)) ⌝ }
     ensures { λ _. ⌜ members (now (place .exit)) ≡ members (now (place .entry)) ⌝ }
     ensures { λ r. ⌜ Low (before width (now (k1 .entry)) (now (k2 .entry))) count r (now (list .exit)) ⌝ }
+    ensures { λ _. ⌜ KeepsHeap (before width (now (k1 .entry)) (now (k2 .entry))) count (now (place .entry)) (now (list .entry)) (now (place .exit)) (now (list .exit)) ⌝ }
 {
     let mut i = start;
     while 0 < i {
@@ -137,6 +138,7 @@ fn sift_down(
     ensures { λ _. ⌜ Tables width (length (now (list .entry))) count (now (k1 .entry)) (now (k2 .entry)) (now (place .exit)) (now (list .exit)) ⌝ }
     ensures { λ _. ⌜ members (now (place .exit)) ≡ members (now (place .entry)) ⌝ }
     ensures { λ _. ⌜ Ordered (before width (now (k1 .entry)) (now (k2 .entry))) count (now (list .exit)) ⌝ }
+    ensures { λ _. ⌜ KeepsHeap (before width (now (k1 .entry)) (now (k2 .entry))) count (now (place .entry)) (now (list .entry)) (now (place .exit)) (now (list .exit)) ⌝ }
 {
     let mut i = start;
     while i + i + 1 < count {
@@ -164,6 +166,7 @@ fn settle(
     ensures { λ _. ⌜ Tables width (length (now (list .entry))) count (now (k1 .entry)) (now (k2 .entry)) (now (place .exit)) (now (list .exit)) ⌝ }
     ensures { λ _. ⌜ members (now (place .exit)) ≡ members (now (place .entry)) ⌝ }
     ensures { λ _. ⌜ Ordered (before width (now (k1 .entry)) (now (k2 .entry))) count (now (list .exit)) ⌝ }
+    ensures { λ _. ⌜ KeepsHeap (before width (now (k1 .entry)) (now (k2 .entry))) count (now (place .entry)) (now (list .entry)) (now (place .exit)) (now (list .exit)) ⌝ }
 {
     let j = sift_up(width, k1, k2, place, list, count, i);
     sift_down(width, k1, k2, place, list, count, j);
@@ -195,7 +198,7 @@ pub fn put_in(
     count + 1
 }
 
-// Puts a queued cell under another key, (first, second).
+// Puts a queued cell under another key, (first, second). Under the keys that it has, nothing is written that changes list or places.
 pub fn put_under(
     width: usize,
     k1: &mut [u32],
@@ -211,6 +214,7 @@ pub fn put_under(
     requires { ⌜ cell < length (now list) ⌝ }
     requires { ⌜ (getD (now place) cell 0 ≡ absent → ⊥) ⌝ }
     ensures { λ _. ⌜ Changed width (length (now (list .entry))) count cell first second true (now (k1 .entry)) (now (k2 .entry)) (now (place .entry)) (now (k1 .exit)) (now (k2 .exit)) (now (place .exit)) (now (list .exit)) ⌝ }
+    ensures { λ _. ⌜ SameKeys cell first second (now (k1 .entry)) (now (k2 .entry)) (now (place .entry)) (now (list .entry)) (now (place .exit)) (now (list .exit)) ⌝ }
 {
     let i = wide(place[cell]);
     k1[cell] = first;

@@ -1,5 +1,5 @@
 use native.Mathlib.Omega.{arith}
-use Rattle.entries.proofs.EntryLaws.{cell-placed, goal-placed, key-room, heap-here, right-absent, right-out, right-in}
+use Rattle.entries.proofs.EntryLaws.{cell-placed, goal-placed, key-room, heap-here, right-absent, right-out, right-in, kept-absent, kept-out, kept-in, kept-under}
 use borrow.Author.Needs.{needs}
 use Rattle.entries.proofs.set_right.Statement.{statement}
 use Rattle.entries.proofs.set_right.Tie as tie
@@ -23,7 +23,10 @@ slice-read-i : tie.Need-slice-read-i
 slice-read-i c = search needs
 
 returns : tie.Need-returns
-returns c = right-absent (c .before .before .before .before .before .before .before .before .before .before .before .pre) (c .before .if1 .taken) (c .if2 .taken)
+returns c =
+    let E = c .before .before .before .before .before .before .before .before .before .before .before .pre in
+    let e = c .before .if1 .taken in
+    (right-absent E e (c .if2 .taken), kept-absent E e)
 
 take-out-requires : tie.Need-take-out-requires
 take-out-requires c κs =
@@ -43,7 +46,10 @@ same-length-4 : tie.Need-same-length-4
 same-length-4 c = search needs
 
 returns-2 : tie.Need-returns-2
-returns-2 c = right-out (c .before .before .before .before .before .before .before .before .before .before .before .before .before .before .before .before .before .before .before .before .before .before .before .before .pre) (c .before .before .before .before .before .before .before .before .before .before .before .before .before .before .if1 .taken) (c .before .before .before .before .before .before .before .before .take-out .ensures .1)
+returns-2 c =
+    let E = c .before .before .before .before .before .before .before .before .before .before .before .before .before .before .before .before .before .before .before .before .before .before .before .before .pre in
+    let e = c .before .before .before .before .before .before .before .before .before .before .before .before .before .before .if1 .taken in
+    (right-out E e (c .before .before .before .before .before .before .before .before .take-out .ensures .1), kept-out E e (c .before .before .before .before .before .before .before .before .before .before .before .before .before .if2 .left))
 
 lesser-requires : tie.Need-lesser-requires
 lesser-requires c κs = search needs
@@ -71,7 +77,12 @@ same-length-8 : tie.Need-same-length-8
 same-length-8 c = search needs
 
 returns-3 : tie.Need-returns-3
-returns-3 c = right-in (c .before .before .before .before .before .before .before .before .before .before .before .before .before .before .before .before .before .before .before .before .before .before .before .before .before .before .pre) (c .before .before .before .before .before .before .before .before .before .before .before .before .before .before .before .before .if1 .left) (c .before .before .before .before .before .before .before .before .before .before .before .before .before .before .before .lesser .ensures) (c .before .before .before .before .before .before .before .before .before .before .before .before .before .before .first-key .ensures) (c .before .before .before .before .before .before .before .before .put-in .ensures .1)
+returns-3 c =
+    let E = c .before .before .before .before .before .before .before .before .before .before .before .before .before .before .before .before .before .before .before .before .before .before .before .before .before .before .pre in
+    let n = c .before .before .before .before .before .before .before .before .before .before .before .before .before .before .before .before .if1 .left in
+    let l = c .before .before .before .before .before .before .before .before .before .before .before .before .before .before .before .lesser .ensures in
+    let f = c .before .before .before .before .before .before .before .before .before .before .before .before .before .before .first-key .ensures in
+    (right-in E n l f (c .before .before .before .before .before .before .before .before .put-in .ensures .1), kept-in E n l f (c .before .before .before .before .before .before .before .before .before .before .before .before .before .if3 .taken))
 
 put-under-requires : tie.Need-put-under-requires
 put-under-requires c κs =
@@ -91,7 +102,13 @@ same-length-12 : tie.Need-same-length-12
 same-length-12 c = search needs
 
 returns-4 : tie.Need-returns-4
-returns-4 c = right-in (c .before .before .before .before .before .before .before .before .before .before .before .before .before .before .before .before .before .before .before .before .before .before .before .before .before .before .pre) (c .before .before .before .before .before .before .before .before .before .before .before .before .before .before .before .before .if1 .left) (c .before .before .before .before .before .before .before .before .before .before .before .before .before .before .before .lesser .ensures) (c .before .before .before .before .before .before .before .before .before .before .before .before .before .before .first-key .ensures) (c .before .before .before .before .before .before .before .before .put-under .ensures)
+returns-4 c =
+    let E = c .before .before .before .before .before .before .before .before .before .before .before .before .before .before .before .before .before .before .before .before .before .before .before .before .before .before .pre in
+    let n = c .before .before .before .before .before .before .before .before .before .before .before .before .before .before .before .before .if1 .left in
+    let l = c .before .before .before .before .before .before .before .before .before .before .before .before .before .before .before .lesser .ensures in
+    let f = c .before .before .before .before .before .before .before .before .before .before .before .before .before .before .first-key .ensures in
+    let q = c .before .before .before .before .before .before .before .before .put-under .ensures in
+    (right-in E n l f (q .0), kept-under E n l f (q .1))
 
 pub set-right-spec : {M : Type 1} → statement M
 set-right-spec =

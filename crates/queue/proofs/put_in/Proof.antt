@@ -64,7 +64,7 @@ returns c =
     let h = c .before .before .before .before .before .before .before .before .before .before .before .before .before .pre in
     let s = c .before .before .before .before .settle .ensures in
     let members = s .1 .0 ∙ put-in-members (h .0) (h .1 .0) (h .1 .1) in
-    (refl, done (h .0) (h .1 .0) (λ z. absurd (never refl z)) (tables-as (s .0) (simp length-set)) members (s .1 .1))
+    (refl, done (h .0) (h .1 .0) (λ z. absurd (never refl z)) (tables-as (s .0) (simp length-set)) members (s .1 .1 .0))
 
 pub put-in-spec : {M : Type 1} → statement M
 put-in-spec =

@@ -1,7 +1,7 @@
 -- The entry has another key and settles from where it stands.
 use mathlib.Core.Path.{refl, _∙_}
 use Rattle.queue.proofs.CaseLaws.{never}
-use Rattle.queue.proofs.CallLaws.{put-under-loose, put-under-members, done}
+use Rattle.queue.proofs.CallLaws.{put-under-loose, put-under-members, same-keys, done}
 use borrow.Author.Needs.{needs}
 use Rattle.queue.proofs.put_under.Statement.{statement}
 use Rattle.queue.proofs.put_under.Tie as tie
@@ -47,7 +47,7 @@ returns c =
     let h = c .before .before .before .before .before .before .before .before .before .before .before .before .before .before .before .pre in
     let s = c .before .before .before .before .settle .ensures in
     let members = s .1 .0 ∙ put-under-members (h .0) (h .1 .0) (h .1 .1) (c .before .before .before .before .before .before .before .before .before .wide .ensures) in
-    done (h .0) (h .1 .0) (λ z. absurd (never refl z)) (s .0) members (s .1 .1)
+    (done (h .0) (h .1 .0) (λ z. absurd (never refl z)) (s .0) members (s .1 .1 .0), same-keys _ _ _ (h .0) (s .1 .1 .1))
 
 pub put-under-spec : {M : Type 1} → statement M
 put-under-spec =

@@ -104,7 +104,7 @@ returns-2 c =
     let t = taken (h .0) (h .1 .0) (h .1 .1) at (e .0) (e .1) in
     let s = c .before .before .before .before .settle .ensures in
     let tables = tables-as (s .0) (t .tables .agree .lengthList) in
-    (sym (has-last (h .0) (h .1 .0) (h .1 .1) at), done (h .0) (h .1 .0) (λ z. (refl, refl)) tables (s .1 .0 ∙ t .membership) (s .1 .1))
+    (sym (has-last (h .0) (h .1 .0) (h .1 .1) at), done (h .0) (h .1 .0) (λ z. (refl, refl)) tables (s .1 .0 ∙ t .membership) (s .1 .1 .0))
 
 pub take-out-spec : {M : Type 1} → statement M
 take-out-spec =

@@ -47,7 +47,7 @@ set-right-requires c κs =
 loop-holds : tie.Need-loop-holds Inv-loop μ-loop
 loop-holds c =
     let p = c .before .before .before .before .before .before .before .before .before .before .before .before .before .before .before .before .before .before .before .before .before .before .before .before .pre in
-    (omega arith, relaxed-first _ _ _ _, became-held (setRight-sized (held-g _ _ (p .1 .0) .sized) _ _) (c .before .before .before .before .before .before .before .before .set-right .ensures _ _), rhs-small (p .1 .0) (p .1 .1 .0 .1))
+    (omega arith, relaxed-first _ _ _ _, became-held (setRight-sized (held-g _ _ (p .1 .0) .sized) _ _) (c .before .before .before .before .before .before .before .before .set-right .ensures .0 _ _), rhs-small (p .1 .0) (p .1 .1 .0 .1))
 
 relax-requires : tie.Need-relax-requires Inv-loop μ-loop
 relax-requires c κs =
@@ -93,7 +93,7 @@ returns : tie.Need-returns Inv-loop μ-loop
 returns c =
     let p = c .before .before .before .before .before .before .before .before .before .before .before .before .before .before .before .before .before .before .before .before .before .before .before .before .before .before .pre in
     let i = c .before .loop .inv in
-    lower-is _ _ _ _ _ _ _ _ _ (c .before .before .before .before .before .before .before .before .before .before .before .before .before .before .before .before .before .before .before .before .before .before .before .before .before .before .args .list .now) (omega (arith, p .1 .0 .sized .g, p .1 .1 .1 .0)) (omega (arith, i .0, c .loop-test .left)) (c .before .before .before .before .before .before .before .before .before .before .set-right .ensures _ _ .is) (i .1) (i .2)
+    lower-is _ _ _ _ _ _ _ _ _ (c .before .before .before .before .before .before .before .before .before .before .before .before .before .before .before .before .before .before .before .before .before .before .before .before .before .before .args .list .now) (omega (arith, p .1 .0 .sized .g, p .1 .1 .1 .0)) (omega (arith, i .0, c .loop-test .left)) (c .before .before .before .before .before .before .before .before .before .before .set-right .ensures .0 _ _ .is) (i .1) (i .2)
 
 pub lower-spec : {M : Type 1} → statement M
 lower-spec =

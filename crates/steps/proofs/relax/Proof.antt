@@ -82,7 +82,7 @@ returns-2 : tie.Need-returns-2
 returns-2 c =
     let p = c .before .before .before .before .before .before .before .before .before .before .before .before .before .before .before .before .before .before .before .before .before .before .before .before .before .before .before .before .pre in
     let r = asked-to _ _ _ _ _ _ (c .before .before .before .before .before .before .before .before .before .before .before .before .before .before .before .before .asked .given .1) (c .before .before .before .before .before .before .before .before .before .before .before .before .before .before .before .before .before .before .relaxation .ensures) in
-    (became-as (c .before .before .before .before .before .before .before .before .set-right .ensures _ _) (sym (r .is _ refl)), small-rhs _ _ (p .1 .0) (r .enters .inside) (sum-small (r .sum-le) (p .1 .1 .1 .3)) (p .1 .1 .0 .1))
+    (became-as (c .before .before .before .before .before .before .before .before .set-right .ensures .0 _ _) (sym (r .is _ refl)), small-rhs _ _ (p .1 .0) (r .enters .inside) (sum-small (r .sum-le) (p .1 .1 .1 .3)) (p .1 .1 .0 .1))
 
 pub relax-spec : {M : Type 1} → statement M
 relax-spec =
