@@ -6,12 +6,15 @@ use Prim.Native.Nat.{ℕ, zero, suc, _+_, _*_, _-_, _≤_, _<_}
 use native.Mathlib.Numerals.{add-one}
 use native.Mathlib.Omega.{arith}
 use native.Mathlib.Decide.{ℕ-discrete, decLt}
+use lib.Dec.{leb}
 use lib.ListN.{length, take, set, getD, drop}
 use lib.Seq.{take-suc, take-length, take-append-seam, length-take-le}
 use Rattle.method.specs.Tables.{choose}
 use Rattle.method.specs.Tables as method
 use Rattle.method.specs.Session as method-session
 use Rattle.method.proofs.Choices.{choose-yes, choose-no}
+use Rattle.decide.specs.Decides.{Decides}
+use Rattle.decide.proofs.DecideLaws.{decides-le}
 use Rattle.plan.specs.Costs.{planOf, Plan}
 use Rattle.plan.specs.Costs as costs
 use Rattle.plan.proofs.MoveLaws.{area}
@@ -338,6 +341,19 @@ going-stops {s = s} {actions = actions} {text₀ = text₀} {left = left} {used 
   stops = e;
   goes-on = λ a b. ⊎-elim (λ m. ⊎-elim (λ z. omega (arith, z, m .0)) (λ z. absurd (omega (arith, z, m .1, a))) e) (λ m. m) (G .moved);
 }
+
+-- Whether an action is left over and the text has room for the longest line, once one is left over.
+pub room-decided : (n left used bytes : ℕ) → (left ≡ 0 → ⊥) → used ≤ bytes → Decides (leb (64 + 6 * n) (bytes - used)) ((0 < left) × (used + room n ≤ bytes))
+room-decided n left used bytes l m = decides-le (64 + 6 * n) (bytes - used) (λ h. (omega (arith, l), omega (arith, h, m))) (λ h. omega (arith, h .1))
+
+-- Where not both hold, none is left over, or the text has no room.
+pub room-over : (n left used bytes : ℕ) → ((0 < left) × (used + room n ≤ bytes) → ⊥) → (left ≡ 0) ⊎ (bytes < used + room n)
+room-over n left used bytes none = at (ℕ-discrete left 0) (decLt bytes (used + room n))
+  where
+    at : Dec (left ≡ 0) → Dec (bytes < used + room n) → (left ≡ 0) ⊎ (bytes < used + room n)
+    at (yes e) d = inl e
+    at (no n) (yes l) = inr l
+    at (no n) (no m) = absurd (none (omega (arith, n), omega (arith, m)))
 
 -- The tables keep their lengths.
 pub going-fits : {file : List ℕ} {s : Session} {t : Tables} {start actions : ℕ} {text₀ : List ℕ} {now : Session} {t′ : Tables} {text : List ℕ} {at left used : ℕ}

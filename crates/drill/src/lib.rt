@@ -6,12 +6,13 @@ use search;
 use session;
 use tables::Session;
 ghost use mathlib.Core.Path.{_≡_};
-ghost use Prim.Native.Nat.{_+_, _≤_};
+ghost use Prim.Native.Nat.{_+_, _≤_, _<_};
 ghost use lib.ListN.{length, take};
-ghost use Rattle.tables.specs.Lent.{given, before, after};
+ghost use Rattle.decide.specs.Decides.{Decides};
+ghost use Rattle.plan.specs.Cells.{Size};
+ghost use Rattle.tables.specs.Lent.{cells, given, before, after};
 ghost use Rattle.lines.specs.Text.{room};
 ghost use Rattle.lines.specs.Put.{Put};
-ghost use Rattle.drill_file.specs.File.{actionAt};
 ghost use Rattle.drill_file.specs.declared.Action.the-variants.{Change, Search};
 ghost use Rattle.drill.specs.Promises.{told, Ready, Turns, Playing, Plays, Opening, Begins};
 
@@ -138,10 +139,9 @@ fn play_search(
     Turned { session, used: end }
 }
 
-// Plays the action at a place of the file.
+// Plays an action.
 fn play_action(
-    file: &[u8],
-    at: usize,
+    action: drill_file::Action,
     s: Session,
     plan: &mut [u8],
     g: &mut [u32],
@@ -156,9 +156,8 @@ fn play_action(
     used: usize,
 ) -> Turned
     requires { ⌜ Ready s (given plan g rhs parent k1 k2 place list) (now way) (now text) used ⌝ }
-    ensures { λ r. ⌜ Turns (actionAt (now (file .entry)) at) s (before plan g rhs parent k1 k2 place list) (now (text .entry)) used r (after plan g rhs parent k1 k2 place list) (now (text .exit)) ⌝ }
+    ensures { λ r. ⌜ Turns action s (before plan g rhs parent k1 k2 place list) (now (text .entry)) used r (after plan g rhs parent k1 k2 place list) (now (text .exit)) ⌝ }
 {
-    let action = drill_file::read(file, at);
     match action {
         drill_file::Action::Change(u, d, cost) => {
             play_change(
@@ -201,7 +200,19 @@ fn play_action(
     }
 }
 
-// Plays the actions that are left over, as long as the text has room for the longest line.
+// Is an action left over, and has the text room for the longest line?
+fn goes_on(s: Session, left: usize, used: usize, bytes: usize) -> bool
+    requires { ⌜ Size (s .width) (s .height) × (used ≤ bytes) ⌝ }
+    ensures { λ r. ⌜ Decides r ((0 < left) × (used + room (cells s) ≤ bytes)) ⌝ }
+{
+    if left == 0 {
+        return false;
+    }
+    let longest = 64 + 6 * (s.height * s.width);
+    longest <= bytes - used
+}
+
+// Plays the actions that are left over, as long as the text has room for the longest line. One reader goes through them.
 pub fn play(
     file: &[u8],
     start: usize,
@@ -221,19 +232,16 @@ pub fn play(
     requires { ⌜ Playing (now file) s (given plan g rhs parent k1 k2 place list) (now way) start actions ⌝ }
     ensures { λ r. ⌜ Plays (now (file .entry)) s (before plan g rhs parent k1 k2 place list) start actions (now (text .entry)) r (after plan g rhs parent k1 k2 place list) (now (text .exit)) ⌝ }
 {
-    let longest = 64 + 6 * (s.height * s.width);
-    let mut session = s;
-    let mut at = start;
+    let mut r = drill_file::reading(file, start);
+    let mut turned = Turned {
+        session: s,
+        used: 0,
+    };
     let mut left = actions;
-    let mut used = 0;
-    while 0 < left {
-        if text.len() - used < longest {
-            break;
-        }
-        let turned = play_action(
-            file,
-            at,
-            session,
+    while goes_on(turned.session, left, turned.used, text.len()) {
+        turned = play_action(
+            drill_file::next(r),
+            turned.session,
             plan,
             g,
             rhs,
@@ -244,17 +252,15 @@ pub fn play(
             list,
             way,
             text,
-            used,
+            turned.used,
         );
-        session = turned.session;
-        used = turned.used;
-        at += 5;
+        r = drill_file::moved(r);
         left -= 1;
     }
     Played {
-        session,
-        at,
+        session: turned.session,
+        at: r.at,
         left,
-        used,
+        used: turned.used,
     }
 }

@@ -1,12 +1,13 @@
 -- Laws of the drill file: what a test chooses, the trailer, the actions and the number of the form.
 use mathlib.Core.Path.{_≡_, refl, sym, ap, _∙_}
-use mathlib.Core.Bool.{true, false, Bool-discrete}
+use mathlib.Core.Bool.{true, false, not, Bool-discrete}
 use mathlib.Core.Logic.{⊎-elim, Dec·and}
 use mathlib.Core.List.{List, [], _∷_}
 use Prim.Native.Nat.{ℕ, zero, suc, _+_, _*_, _-_, _<_, _≤_}
 use native.Mathlib.Decide.{ℕ-discrete}
 use native.Mathlib.Nat.{add-assoc}
 use native.Mathlib.Omega.{arith}
+use lib.Dec.{T}
 use lib.ListN.{length, getD}
 use Rattle.method.specs.Tables.{choose}
 use Rattle.method.proofs.Choices.{choose-yes, choose-no}
@@ -15,7 +16,7 @@ use denote.Enum.Declared.{tagOf}
 use Rattle.drill_file.specs.declared.Action.{Action}
 use Rattle.drill_file.specs.declared.Action.the-variants.{Change, Hunter, Target, Search, Bad}
 use Rattle.drill_file.specs.declared.Trailer.{Trailer}
-use Rattle.drill_file.specs.File.{two, trailerAt, trailerOf, cells, actionAt, actionsFrom, wellFormed, isSize, formNumber}
+use Rattle.drill_file.specs.File.{two, trailerAt, trailerOf, cells, actionAt, actionsFrom, isBad, wellFormed, isSize, formNumber}
 use Rattle.drill_file.proofs.Action.{the-type}
 
 -- Where a test holds, what equals the first of two equals their choice ..
@@ -32,17 +33,35 @@ pub trailer-read : (file : List ℕ) (at hunter target actions low high : ℕ)
     → _≡_ {A = Trailer} (record { width = getD file at 0; height = getD file (at + 1) 0; hunter = hunter; target = target; actions = actions; offset = low + 65536 * high }) (trailerAt file at)
 trailer-read file at hunter target actions low high h t a l g = rw (h, t, a, l, g, add-assoc at 8 2)
 
--- One action that is not badly formed, by its variant's number, does not change whether all are well formed.
-well-more : (a : Action) (l : List Action) → OneOf (0 ∷ 1 ∷ 2 ∷ 3 ∷ []) (tagOf the-type a) → wellFormed (a ∷ l) ≡ wellFormed l
-unfolding wellFormed
+-- One of the first four variants is not badly formed.
+pub not-bad : (a : Action) → OneOf (0 ∷ 1 ∷ 2 ∷ 3 ∷ []) (tagOf the-type a) → false ≡ isBad a
+unfolding isBad
+not-bad (Change u d cost) k = refl
+not-bad (Hunter s) k = refl
+not-bad (Target s) k = refl
+not-bad Search k = refl
+not-bad Bad k = absurd (none k)
+  where
+    none : OneOf (0 ∷ 1 ∷ 2 ∷ 3 ∷ []) 4 → ⊥
+    none k = ⊎-elim (λ e. omega (arith, e)) (⊎-elim (λ e. omega (arith, e)) (⊎-elim (λ e. omega (arith, e)) (λ e. omega (arith, e)))) k
+
+-- One action that is not badly formed does not change whether all are well formed ..
+well-more : (a : Action) (l : List Action) → T (not (isBad a)) → wellFormed (a ∷ l) ≡ wellFormed l
+unfolding wellFormed isBad
 well-more (Change u d cost) l k = refl
 well-more (Hunter s) l k = refl
 well-more (Target s) l k = refl
 well-more Search l k = refl
-well-more Bad l k = absurd (none k)
-  where
-    none : OneOf (0 ∷ 1 ∷ 2 ∷ 3 ∷ []) 4 → ⊥
-    none k = ⊎-elim (λ e. omega (arith, e)) (⊎-elim (λ e. omega (arith, e)) (⊎-elim (λ e. omega (arith, e)) (λ e. omega (arith, e)))) k
+well-more Bad l k = absurd k
+
+-- .. and one that is decides by itself.
+well-less : (a : Action) (l : List Action) → T (isBad a) → wellFormed (a ∷ l) ≡ false
+unfolding wellFormed isBad
+well-less (Change u d cost) l k = absurd k
+well-less (Hunter s) l k = absurd k
+well-less (Target s) l k = absurd k
+well-less Search l k = absurd k
+well-less Bad l k = refl
 
 module _ (file : List ℕ) (at : ℕ) where
   -- The first of some actions, and those after it.
@@ -52,13 +71,12 @@ module _ (file : List ℕ) (at : ℕ) where
   first (suc n) l = let e : suc n - 1 ≡ n = omega arith in rw e
 
   -- Past an action that is not badly formed, the rest decides ..
-  pub goes-on : (n : ℕ) {a : Action} → 0 < n → a ≡ actionAt file at → OneOf (0 ∷ 1 ∷ 2 ∷ 3 ∷ []) (tagOf the-type a) → wellFormed (actionsFrom file at n) ≡ wellFormed (actionsFrom file (at + 5) (n - 1))
-  goes-on n {a} l e k = rw (first n l, ← e) (well-more a _ k)
+  pub goes-on : (n : ℕ) → 0 < n → T (not (isBad (actionAt file at))) → wellFormed (actionsFrom file at n) ≡ wellFormed (actionsFrom file (at + 5) (n - 1))
+  goes-on n l k = ap wellFormed (first n l) ∙ well-more _ _ k
 
   -- .. a badly formed action decides by itself ..
-  pub stops : (n : ℕ) {a : Action} → 0 < n → a ≡ actionAt file at → a ≡ Bad → wellFormed (actionsFrom file at n) ≡ false
-  unfolding wellFormed
-  stops n l e b = rw (first n l, ← e, b)
+  pub stops : (n : ℕ) → 0 < n → T (isBad (actionAt file at)) → wellFormed (actionsFrom file at n) ≡ false
+  stops n l k = ap wellFormed (first n l) ∙ well-less _ _ k
 
   -- .. and where none is left, all were well formed.
   pub ends : (n : ℕ) → n ≤ 0 → wellFormed (actionsFrom file at n) ≡ true

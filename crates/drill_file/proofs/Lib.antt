@@ -1,1 +1,3 @@
 pub mod FileLaws
+pub mod LoopSteps
+pub mod OneReader

@@ -62,6 +62,14 @@ actionsFrom file at (suc n) = actionAt file at ∷ actionsFrom file (at + 5) n
 abbrev pub actionsOf : List ℕ → List Action
 actionsOf file = actionsFrom file (trailerOf file .offset) (trailerOf file .actions)
 
+-- Whether an action is badly formed.
+unfoldable pub isBad : Action → Bool
+isBad Bad = true
+isBad (Change u d cost) = false
+isBad (Hunter s) = false
+isBad (Target s) = false
+isBad Search = false
+
 -- No action is badly formed.
 unfoldable pub wellFormed : List Action → Bool
 wellFormed [] = true

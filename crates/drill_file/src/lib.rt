@@ -1,9 +1,9 @@
 // The drill file: its trailer, its actions through a reader, and whether it is well formed.
 use plan;
 ghost use mathlib.Core.Path.{_≡_};
-ghost use Prim.Native.Nat.{_+_, _*_, _≤_};
+ghost use Prim.Native.Nat.{_+_, _*_, _≤_, _<_, _^_};
 ghost use lib.ListN.{length};
-ghost use Rattle.drill_file.specs.File.{two, trailerOf, actionOf, actionAt, actionsFrom, wellFormed, formNumber};
+ghost use Rattle.drill_file.specs.File.{two, trailerOf, actionOf, actionAt, actionsFrom, isBad, wellFormed, formNumber};
 
 // What the last 12 bytes say.
 pub struct Trailer {
@@ -111,25 +111,39 @@ pub fn next<'a>(r: Reader<'a>) -> Action
     action_at(r.file, r.at)
 }
 
-// The action at a place of a file, through a reader.
-pub fn read(file: &[u8], at: usize) -> Action
-    ensures { λ r. ⌜ r ≡ actionAt (now (file .entry)) at ⌝ }
+// The reader past one action.
+pub fn moved<'a>(r: Reader<'a>) -> Reader<'a>
+    requires { ⌜ r .at + 5 < 2 ^ 64 ⌝ }
+    ensures { λ q. ⌜ (q .file ≡ r .entry .file) × (q .at ≡ r .entry .at + 5) ⌝ }
 {
-    next(reading(file, at))
+    Reader {
+        file: r.file,
+        at: r.at + 5,
+    }
 }
 
-// Is none of so many actions from a place on badly formed?
+// Is an action badly formed?
+fn is_bad(action: Action) -> bool
+    ensures { λ r. ⌜ r ≡ isBad action ⌝ }
+{
+    if let Action::Bad = action {
+        return true;
+    }
+    false
+}
+
+// Is none of so many actions from a place on badly formed? One reader goes through them.
 fn well_formed(file: &[u8], from: usize, actions: usize) -> bool
     requires { ⌜ from + 5 * actions ≤ length (now file) ⌝ }
     ensures { λ r. ⌜ r ≡ wellFormed (actionsFrom (now (file .entry)) from actions) ⌝ }
 {
-    let mut at = from;
+    let mut r = reading(file, from);
     let mut left = actions;
     while 0 < left {
-        if let Action::Bad = read(file, at) {
+        if is_bad(next(r)) {
             return false;
         }
-        at += 5;
+        r = moved(r);
         left -= 1;
     }
     true
