@@ -5,12 +5,13 @@ use mathlib.Core.List.{List}
 use Prim.Native.Nat.{ℕ, _+_, _*_, _≤_, _<_}
 use native.Mathlib.Omega.{arith}
 use native.Mathlib.Decide.{ℕ-discrete}
-use lib.ListN.{length}
 use Rattle.method.specs.Numbers.{infinite, mostCost, mostSearches, growth}
 use Rattle.method.specs.Graph.{Graph, GraphLaws}
 use Rattle.method.specs.Tables as tables
 use Rattle.method.specs.Session as calls
 use Rattle.method.specs.Sound as method-sound
+use Rattle.method.specs.Growth.{FiniteUpTo, RaisesAtMost}
+use Rattle.method.proofs.Growth.{up-to-more}
 use Rattle.method.proofs.Theorems as method
 use Rattle.plan.proofs.GridLaws.{graph-laws}
 use Rattle.tables.specs.declared.Session.{Session}
@@ -25,9 +26,9 @@ use Rattle.change.proofs.Theorems.{change-keeps-sound}
 use Rattle.search.specs.declared.Outcome.{Outcome}
 use Rattle.search.specs.Promise.{Searches}
 use Rattle.search.proofs.RefusalLaws.{search-granted}
-use Rattle.demands.specs.History.{Call, places-hunter, places-target, changes-move, searches, opens-again, open-refused, History, opened, from-sound, and-then, Point, now, before, PointOf, Search, last, earlier, SearchOf, NumbersFit, afterSteps, EveryOrder}
+use Rattle.demands.specs.History.{Call, places-hunter, places-target, changes-move, searches, opens-again, open-refused}
+use Rattle.demands.specs.History.{History, opened, from-sound, and-then, now, before, PointOf, last, earlier, SearchOf, NumbersFit, afterSteps, EveryOrder}
 use Rattle.demands.proofs.Demands.{demand-2, demand-3}
-use Rattle.demands.proofs.Growth.{raises-at-most}
 
 -- ---- sound tables
 
@@ -58,15 +59,17 @@ history-sound (opened P e) = opened-sound P e
 history-sound (from-sound S) = S
 history-sound (and-then h c) = call-keeps-sound (history-sound h) c
 
--- The history up to a point of it is a history; a search of it starts at a point of it.
+-- The history up to a point of it is a history.
 up-to : {s s₁ : Session} {t t₁ : Tables} {h : History s t} → PointOf h s₁ t₁ → History s₁ t₁
 up-to {h = h} now = h
 up-to (before p) = up-to p
 
+-- A search of it starts at a point of it ..
 point-of : {s s₁ : Session} {t t₁ t₂ : Tables} {h : History s t} {way way₂ : List ℕ} {r : Outcome} → SearchOf h s₁ t₁ way r t₂ way₂ → PointOf h s₁ t₁
 point-of (last P) = before now
 point-of (earlier x) = before (point-of x)
 
+-- .. and is what a search promises.
 promise-of : {s s₁ : Session} {t t₁ t₂ : Tables} {h : History s t} {way way₂ : List ℕ} {r : Outcome} → SearchOf h s₁ t₁ way r t₂ way₂ → Searches s₁ t₁ way r t₂ way₂
 promise-of (last P) = P
 promise-of (earlier x) = promise-of x
@@ -74,6 +77,7 @@ promise-of (earlier x) = promise-of x
 -- ---- numbers
 
 module _ {G : Graph} (L : GraphLaws G) {σ : calls.Session} {T : tables.Tables} (S : method-sound.Sound G σ T) where
+  -- g and a cost
   sum-fit : (x cost : ℕ) → x < G .cells → cost ≤ mostCost → (tables.gAt T x ≡ infinite) ⊎ (tables.gAt T x + cost < infinite)
   sum-fit x cost l h = at (ℕ-discrete (tables.gAt T x) infinite)
     where
@@ -81,6 +85,7 @@ module _ {G : Graph} (L : GraphLaws G) {σ : calls.Session} {T : tables.Tables} 
       at (yes e) = inl e
       at (no n) = inr (method.sum-below L S x cost l n h)
 
+  -- rhs, whatever the search number is
   rhs-fit : (x : ℕ) → (tables.rhsAt T x ≡ infinite) ⊎ (tables.rhsAt T x ≤ growth * σ .searches + mostCost) → (tables.rhsAt T x ≡ infinite) ⊎ (tables.rhsAt T x ≤ growth * mostSearches + mostCost)
   rhs-fit x (inl e) = inl e
   rhs-fit x (inr h) = inr (omega (arith, S .searches-le))
@@ -97,6 +102,7 @@ module _ {G : Graph} (L : GraphLaws G) {σ : calls.Session} {T : tables.Tables} 
       at (inl a) (inr b) (no n) = inr (method.key-below L S x l (omega (arith, n, S .searches-le)))
       at (inr a) b (no n) = inr (method.key-below L S x l (omega (arith, n)))
 
+  -- No number of sound tables passes its width.
   pub numbers-fit : NumbersFit G σ T
   numbers-fit = record {
     sum = sum-fit;
@@ -107,17 +113,31 @@ module _ {G : Graph} (L : GraphLaws G) {σ : calls.Session} {T : tables.Tables} 
     searches = S .searches-le;
   }
 
--- ---- every order
-
+-- The plan of sound tables is a graph of the method.
 laws-of : {s : Session} {t : Tables} → Sound s t → GraphLaws (graph s t)
 laws-of {s} {t} S = graph-laws (floor s (t .plan)) (S .plan .size)
 
+-- A search raises the greatest finite number by at most 1,024,250, for any record and tables: those that are not sound are refused and stay.
+pub raises-at-most : {s : Session} {t t′ : Tables} (way : List ℕ) {way′ : List ℕ} {r : Outcome} → Searches s t way r t′ way′ → RaisesAtMost (cells s) (core t) (core t′)
+raises-at-most {s} {t} {t′} way P most F = at (ℕ-discrete (P .number) 0)
+  where
+    at : Dec (P .number ≡ 0) → FiniteUpTo (cells s) (most + growth) (core t′)
+    at (yes z) =
+        let S = search-granted way (P .rules) z .0 in
+        subst (λ T. FiniteUpTo (cells s) (most + growth) T) (sym (P .done z .tables-are)) (method.raises-at-most (laws-of S) (S .numbers) most F)
+    at (no n) = subst (λ (x : Tables). FiniteUpTo (cells s) (most + growth) (core x)) (sym (P .refused n .2)) (up-to-more (omega arith) F)
+
+-- ---- every order
+
+-- The numbers at a point of a history.
 sound-fit : {s : Session} {t : Tables} → Sound s t → NumbersFit (graph s t) (session s) (core t)
 sound-fit S = numbers-fit (laws-of S) (S .numbers)
 
+-- After any number of steps of a search from there.
 steps-fit : {s : Session} {t : Tables} → Sound s t → (n : ℕ) → NumbersFit (graph s t) (calls.counted (calls.takenOver (graph s t) (session s) (core t) .session)) (afterSteps s t n)
 steps-fit S n = numbers-fit (laws-of S) (method.every-step-sound (laws-of S) (S .numbers) n)
 
+-- The letter's "every order of door changes and moves between two searches".
 pub every-order : {s : Session} {t : Tables} (h : History s t) → EveryOrder h
 every-order h = record {
   sound = λ p. history-sound (up-to p);

@@ -1,4 +1,2 @@
 pub mod Demands
-pub mod Growth
 pub mod History
-pub mod Raise

@@ -11,6 +11,7 @@ use Rattle.method.specs.Graph.{Graph}
 use Rattle.method.specs.Tables as method
 use Rattle.method.specs.Loop.{run}
 use Rattle.method.specs.Session as calls
+use Rattle.method.specs.Growth.{RaisesAtMost}
 use Rattle.tables.specs.declared.Session.{Session}
 use Rattle.tables.specs.Lent.{Tables, cells, graph, session, core}
 use Rattle.tables.specs.Sound.{Sound}
@@ -44,6 +45,7 @@ pub data Point (s₁ : Session) (t₁ : Tables) : (s : Session) (t : Tables) →
   now : {h : History s₁ t₁} → Point s₁ t₁ s₁ t₁ h
   before : {s s′ : Session} {t t′ : Tables} {h : History s t} {c : Call s t s′ t′} → Point s₁ t₁ s t h → Point s₁ t₁ s′ t′ (and-then h c)
 
+-- The same, the history named first.
 abbrev pub PointOf : {s : Session} {t : Tables} → History s t → Session → Tables → Type 0
 PointOf {s} {t} h s₁ t₁ = Point s₁ t₁ s t h
 
@@ -52,6 +54,7 @@ pub data Search (s₁ : Session) (t₁ : Tables) (way : List ℕ) (r : Outcome) 
   last : {h : History s₁ t₁} (P : Searches s₁ t₁ way r t₂ way₂) → Search s₁ t₁ way r t₂ way₂ (r .session) t₂ (and-then h (searches P))
   earlier : {s s′ : Session} {t t′ : Tables} {h : History s t} {c : Call s t s′ t′} → Search s₁ t₁ way r t₂ way₂ s t h → Search s₁ t₁ way r t₂ way₂ s′ t′ (and-then h c)
 
+-- The same, the history named first.
 abbrev pub SearchOf : {s : Session} {t : Tables} → History s t → Session → Tables → List ℕ → Outcome → Tables → List ℕ → Type 0
 SearchOf {s} {t} h s₁ t₁ way r t₂ way₂ = Search s₁ t₁ way r t₂ way₂ s t h
 
@@ -71,15 +74,6 @@ pub record NumbersFit (G : Graph) (σ : calls.Session) (T : method.Tables) : Typ
   pub km : σ .km + mostEstimate < infinite
   pub searches : σ .searches ≤ mostSearches
 
--- No finite g or rhs is above `most`.
-pub record FiniteUpTo (cells most : ℕ) (T : method.Tables) : Type 0 where
-  pub g : (x : ℕ) → x < cells → (method.gAt T x ≡ infinite) ⊎ (method.gAt T x ≤ most)
-  pub rhs : (x : ℕ) → x < cells → (method.rhsAt T x ≡ infinite) ⊎ (method.rhsAt T x ≤ most)
-
--- "a search raises the greatest finite number by at most 250 × 4,097 = 1,024,250"
-abbrev pub RaisesAtMost : Session → Tables → Tables → Type 0
-RaisesAtMost s t t′ = (most : ℕ) → FiniteUpTo (cells s) most (core t) → FiniteUpTo (cells s) (most + growth) (core t′)
-
 -- The method's state after the take-over and n steps of a search, for any n.
 abbrev pub afterSteps : Session → Tables → ℕ → method.Tables
 afterSteps s t n =
@@ -87,6 +81,7 @@ afterSteps s t n =
 
 -- ---- what holds of a history
 
+-- What holds at every point and of every search of the history h, in whatever order its calls came.
 pub record EveryOrder {s : Session} {t : Tables} (h : History s t) : Type 0 where
   -- at every point the tables are sound, and no number passes its width
   pub sound : {s₁ : Session} {t₁ : Tables} → PointOf h s₁ t₁ → Sound s₁ t₁
@@ -96,7 +91,7 @@ pub record EveryOrder {s : Session} {t : Tables} (h : History s t) : Type 0 wher
   -- demand 3: in at most 3N steps, each cell once a kind
   pub few : {s₁ : Session} {t₁ t₂ : Tables} {way way₂ : List ℕ} {r : Outcome} → SearchOf h s₁ t₁ way r t₂ way₂ → cells s₁ ≤ length way → FewSteps s₁ t₁ r t₂
   -- the greatest finite number rises by at most 1,024,250 ..
-  pub raises : {s₁ : Session} {t₁ t₂ : Tables} {way way₂ : List ℕ} {r : Outcome} → SearchOf h s₁ t₁ way r t₂ way₂ → RaisesAtMost s₁ t₁ t₂
+  pub raises : {s₁ : Session} {t₁ t₂ : Tables} {way way₂ : List ℕ} {r : Outcome} → SearchOf h s₁ t₁ way r t₂ way₂ → RaisesAtMost (cells s₁) (core t₁) (core t₂)
   -- .. and after each of these steps no number has passed its width
   pub between : {s₁ : Session} {t₁ t₂ : Tables} {way way₂ : List ℕ} {r : Outcome} → SearchOf h s₁ t₁ way r t₂ way₂ → (n : ℕ)
       → NumbersFit (graph s₁ t₁) (calls.counted (calls.takenOver (graph s₁ t₁) (session s₁) (core t₁) .session)) (afterSteps s₁ t₁ n)

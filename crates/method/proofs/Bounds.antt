@@ -17,6 +17,15 @@ pub record Bound (H : Hunt) (B : ℕ) (T : Tables) : Type 0 where
   pub g : (s : ℕ) → s < H .graph .cells → gAt T s < infinite → gAt T s ≤ B
   pub hunter : rhsAt T (H .hunter) ≤ B
 
+-- A finite number is within its bound.
+pub finite-le : {n B : ℕ} → (n ≡ infinite) ⊎ (n ≤ B) → n < infinite → n ≤ B
+finite-le (inl e) f = absurd (omega arith)
+finite-le (inr h) f = h
+
+-- What is within a bound is within a greater one.
+pub bound-more : {H : Hunt} {A B : ℕ} {T : Tables} → A ≤ B → Bound H A T → Bound H B T
+bound-more l b = record { g = λ s i f. omega (arith, b .g s i f); hunter = omega (arith, b .hunter) }
+
 -- then every finite rhs is at most one cost above B
 pub rhs-bound : {H : Hunt} {B : ℕ} {T : Tables} → Stands H → Right H T → Bound H B T → (s : ℕ) → s < H .graph .cells → rhsAt T s < infinite → rhsAt T s ≤ B + mostCost
 rhs-bound {H} {B} {T} L R b s l fin = at (ℕ-discrete s (H .hunter))

@@ -15,6 +15,7 @@ pub mod Soundness
 pub mod Changing
 pub mod Readying
 pub mod Searching
+pub mod Growth
 pub mod Theorems
 pub mod Appending
 pub mod Drill

@@ -11,10 +11,11 @@ use Rattle.method.specs.Graph.{Graph, GraphLaws, Hunt}
 use Rattle.method.specs.Tables.{Tables, Sized, gAt, rhsAt, parentAt, queuedAt, storedKey, anew, Least}
 use Rattle.method.specs.Session.{Session, huntOf, State, opened, blank, fresh, freshStart, targetTaken, hunterTaken, handedOver, takenOver}
 use Rattle.method.specs.Sound.{Sound}
+use Rattle.method.specs.Growth.{FiniteUpTo}
 use Rattle.method.proofs.Choices.{choose-is}
 use Rattle.method.proofs.Notions.{Stands, Right}
 use Rattle.method.proofs.Keeping.{Held, queue-same}
-use Rattle.method.proofs.Bounds.{Bound, rhs-bound}
+use Rattle.method.proofs.Bounds.{Bound, finite-le, bound-more, rhs-bound}
 use Rattle.method.proofs.LeastSums.{anew-least, least-cast}
 use Rattle.method.proofs.Entries.{withRhs-sized, setRight-sized, foundAnew-sized, Reset, reset, anew-reset}
 use Rattle.method.proofs.Soundness.{sound-right, sound-bound, reset-right}
@@ -130,17 +131,21 @@ module _ {H : Hunt} {T : Tables} {new : ℕ} (L : Stands H) (z : Sized (H .graph
       (λ s l ns no. least-cast {g = T .g} refl refl (getD-set-other (T .parent) new s 0 0 ns) (R .least s l no)) (λ _. anew-least (H .graph) (T .g) (H .hunter))
       (λ s l _. (queue-same T (orphaned T new) s refl refl (record { stored = refl; queued = refl }) (R .queue s l), R .keys s l))
 
-  -- the bound rises by one cost
-  handed-bound : {A : ℕ} → Bound H A T → Bound (handTo H new) (A + mostCost) (handedOver (handTo H new) T (H .hunter))
-  handed-bound b = record {
+  -- a bound on the new hunter's rhs too is kept ..
+  handed-within : {A : ℕ} → Bound H A T → rhsAt T new ≤ A → Bound (handTo H new) A (handedOver (handTo H new) T (H .hunter))
+  handed-within b h = record {
     g = λ s l f. omega (arith, ap (λ x. getD x s 0) (handed-reset .g), b .g s l (omega (arith, ap (λ x. getD x s 0) (handed-reset .g))));
-    hunter = omega (arith, handed-reset .other new ne .rhs, rhs-bound L R b new ln fin);
+    hunter = omega (arith, handed-reset .other new ne .rhs);
   }
+
+  -- .. else it rises by one cost
+  handed-bound : {A : ℕ} → Bound H A T → Bound (handTo H new) (A + mostCost) (handedOver (handTo H new) T (H .hunter))
+  handed-bound b = handed-within (bound-more (omega arith) b) (rhs-bound L R b new ln fin)
 
 -- ---- the take-over
 
--- What a search starts from: right tables at the placed cells, no number more than one cost above the last search's bound.
-pub record Ready (G : Graph) (σ : Session) (s : State) : Type 0 where
+-- What a search of T starts from: right tables at the placed cells, no number more than one cost above the last search's bound, nor above the greatest finite number of T.
+pub record Ready (G : Graph) (σ : Session) (T : Tables) (s : State) : Type 0 where
   pub hunter : s .session .lastHunter ≡ σ .hunter
   pub target : s .session .lastTarget ≡ σ .target
   pub placed-hunter : s .session .hunter ≡ σ .hunter
@@ -150,9 +155,14 @@ pub record Ready (G : Graph) (σ : Session) (s : State) : Type 0 where
   pub sized : Sized (G .cells) (s .tables)
   pub right : Right (huntOf G (s .session)) (s .tables)
   pub bound : Bound (huntOf G (s .session)) (growth * s .session .searches + mostCost) (s .tables)
+  pub within : (most : ℕ) → FiniteUpTo (G .cells) most T → Bound (huntOf G (s .session)) most (s .tables)
 
 module _ {G : Graph} (L : GraphLaws G) {σ : Session} {T : Tables} (S : Sound G σ T) where
-  ready-fresh : Ready G σ (freshStart G (σ .hunter) (σ .target))
+  -- the last search's hunter has a finite rhs, so every number of T that counts is within
+  within-here : {most : ℕ} → FiniteUpTo (G .cells) most T → Bound (huntOf G (targetTaken G σ)) most T
+  within-here F = record { g = λ s l. finite-le (F .g s l); hunter = finite-le (F .rhs (σ .lastHunter) (S .last-hunter-in)) (S .hunter-finite) }
+
+  ready-fresh : Ready G σ T (freshStart G (σ .hunter) (σ .target))
   ready-fresh =
       let b = fresh-bound L {target = σ .target} (S .hunter-in) in
       record {
@@ -164,10 +174,11 @@ module _ {G : Graph} (L : GraphLaws G) {σ : Session} {T : Tables} (S : Sound G 
         km-le = omega arith;
         sized = fresh-sized G (σ .hunter) (σ .target);
         right = fresh-right L (S .hunter-in);
-        bound = record { g = λ s l f. omega (arith, b .g s l f); hunter = omega (arith, b .hunter) };
+        bound = bound-more (omega arith) b;
+        within = λ most F. bound-more (omega arith) b;
       }
 
-  ready-target : σ .searches ≢ mostSearches → σ .hunter ≡ σ .lastHunter → Ready G σ (record { session = targetTaken G σ; tables = T })
+  ready-target : σ .searches ≢ mostSearches → σ .hunter ≡ σ .lastHunter → Ready G σ T (record { session = targetTaken G σ; tables = T })
   ready-target n e = record {
     hunter = sym e;
     target = refl;
@@ -178,10 +189,11 @@ module _ {G : Graph} (L : GraphLaws G) {σ : Session} {T : Tables} (S : Sound G 
     sized = S .sized;
     right = target-right L σ (sound-right S);
     bound = record { g = λ s l f. omega (arith, sound-bound S .g s l f); hunter = omega (arith, S .hunter-le) };
+    within = λ most F. within-here F;
   }
 
   ready-hunter : σ .searches ≢ mostSearches → σ .hunter ≢ σ .lastHunter → rhsAt T (σ .hunter) ≢ infinite
-      → Ready G σ (record { session = hunterTaken (targetTaken G σ); tables = handedOver (huntOf G (hunterTaken (targetTaken G σ))) T (σ .lastHunter) })
+      → Ready G σ T (record { session = hunterTaken (targetTaken G σ); tables = handedOver (huntOf G (hunterTaken (targetTaken G σ))) T (σ .lastHunter) })
   ready-hunter n ne nf = record {
     hunter = refl;
     target = refl;
@@ -192,6 +204,7 @@ module _ {G : Graph} (L : GraphLaws G) {σ : Session} {T : Tables} (S : Sound G 
     sized = handedOver-sized (S .sized) (huntOf G (hunterTaken (targetTaken G σ))) (σ .lastHunter);
     right = handed-right L′ (S .sized) R (S .hunter-in) ne fin;
     bound = handed-bound L′ (S .sized) R (S .hunter-in) ne fin (record { g = sound-bound S .g; hunter = S .hunter-le });
+    within = λ most F. handed-within L′ (S .sized) R (S .hunter-in) ne fin (within-here F) (finite-le (F .rhs (σ .hunter) (S .hunter-in)) fin);
   }
     where
       L′ : Stands (huntOf G (targetTaken G σ))
@@ -203,12 +216,12 @@ module _ {G : Graph} (L : GraphLaws G) {σ : Session} {T : Tables} (S : Sound G 
       fin : rhsAt T (σ .hunter) < infinite
       fin = omega (arith, nf, R .least (σ .hunter) (S .hunter-in) ne .le-inf)
 
-  pub ready : Ready G σ (takenOver G σ T)
+  pub ready : Ready G σ T (takenOver G σ T)
   unfolding takenOver
   ready =
-      choose-is (λ s. Ready G σ s) _ (λ _. ready-fresh)
-      (λ n. choose-is (λ s. Ready G σ s) _ (ready-target n)
-      (λ ne. choose-is (λ s. Ready G σ s) _ (λ _. ready-fresh) (ready-hunter n ne)))
+      choose-is (λ s. Ready G σ T s) _ (λ _. ready-fresh)
+      (λ n. choose-is (λ s. Ready G σ T s) _ (ready-target n)
+      (λ ne. choose-is (λ s. Ready G σ T s) _ (λ _. ready-fresh) (ready-hunter n ne)))
 
 pub takenOver-sized : (G : Graph) (σ : Session) {T : Tables} → Sized (G .cells) T → Sized (G .cells) (takenOver G σ T .tables)
 unfolding takenOver

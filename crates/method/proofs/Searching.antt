@@ -73,7 +73,7 @@ abbrev pub runTaken : Graph → Session → Tables → ℕ → Ran
 runTaken G σ T limit = run (huntTaken G σ T) limit (takenOver G σ T .tables)
 
 module _ {G : Graph} (L : GraphLaws G) {σ : Session} {T : Tables} (S : Sound G σ T) where
-  ready-here : Ready G σ (takenOver G σ T)
+  ready-here : Ready G σ T (takenOver G σ T)
   ready-here = ready L S
 
   stands : Stands (huntTaken G σ T)

@@ -14,7 +14,7 @@ use Rattle.method.specs.Sound.{Sound}
 use Rattle.method.proofs.Notions.{Stands, Inconsistent, LeastAt, Right}
 use Rattle.method.proofs.Facts.{rhs-le}
 use Rattle.method.proofs.Keeping.{Held, held-right, held-same}
-use Rattle.method.proofs.Bounds.{Bound}
+use Rattle.method.proofs.Bounds.{Bound, finite-le}
 use Rattle.method.proofs.LeastSums.{least-cast}
 use Rattle.method.proofs.Entries.{key-finite, Reset}
 
@@ -44,11 +44,7 @@ module _ {G : Graph} {σ : Session} {T : Tables} (S : Sound G σ T) where
       rhs-at s l (no n) = S .least s l n .le-inf
 
   pub sound-bound : Bound (huntOf G σ) (growth * σ .searches) T
-  sound-bound = record { g = λ s l f. at s f (S .g-le s l); hunter = S .hunter-le }
-    where
-      at : (s : ℕ) → gAt T s < infinite → (gAt T s ≡ infinite) ⊎ (gAt T s ≤ growth * σ .searches) → gAt T s ≤ growth * σ .searches
-      at s f (inl e) = absurd (omega arith)
-      at s f (inr h) = h
+  sound-bound = record { g = λ s l. finite-le (S .g-le s l); hunter = S .hunter-le }
 
 -- The recorded cells are in the graph, and search number and km are within their bounds.
 pub record Within (G : Graph) (σ : Session) : Type 0 where

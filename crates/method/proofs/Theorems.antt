@@ -18,6 +18,7 @@ use Rattle.method.specs.Session.{Session, huntOf, opened, fresh, hunterP
 use Rattle.method.specs.Sound.{Sound}
 use Rattle.method.specs.Walk.{NoChain, RightAnswer, none-there, way-there, Once, none-yet}
 use Rattle.method.specs.Change.{Altered}
+use Rattle.method.specs.Growth.{RaisesAtMost}
 use Rattle.method.proofs.Choices.{differ}
 use Rattle.method.proofs.Notions.{Inconsistent}
 use Rattle.method.proofs.Facts.{rhs-le}
@@ -29,6 +30,7 @@ use Rattle.method.proofs.Soundness.{sound-stands, sound-right, sound-bo
 use Rattle.method.proofs.Changing.{moveChanged-sized, Changed, changed-is}
 use Rattle.method.proofs.Readying.{fresh-sized, fresh-right, fresh-bound, ready}
 use Rattle.method.proofs.Searching.{answer-cost, sound-during, huntTaken, runTaken, during-start, during-sound, went-to, ended, few-steps, searched-right, of-search}
+use Rattle.method.proofs.Growth.{search-up-to}
 
 module _ {G : Graph} (L : GraphLaws G) {σ : Session} {T : Tables} (S : Sound G σ T) where
   -- ---- demand 3: the steps of a search of sound tables
@@ -197,6 +199,10 @@ module _ {G : Graph} (L : GraphLaws G) {σ : Session} {T : Tables} (S : Sound G 
       let f : lesser T s < infinite = lesser-finite (sound-during L S) s l n in
       let h : lesser T s + G .estimate s (σ .lastTarget) + σ .km < infinite = key-below s l f in
       (omega (arith, first-finite (huntOf G σ) s (lesser T s) f), f, omega (arith, sound-right S .keys s l n))
+
+  -- A search raises the greatest finite number by at most 1,024,250.
+  pub raises-at-most : RaisesAtMost (G .cells) T (search G σ T .tables)
+  raises-at-most most F = search-up-to L S F
 
 -- ---- one least cell
 

@@ -9,3 +9,4 @@ pub mod Session
 pub mod Sound
 pub mod Walk
 pub mod Change
+pub mod Growth

@@ -4,3 +4,4 @@ pub mod EstimateLaws
 pub mod GridLaws
 pub mod MoveLaws
 pub mod ChangeLaws
+pub mod RaiseLaws

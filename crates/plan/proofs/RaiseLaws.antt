@@ -2,13 +2,12 @@
 use mathlib.Core.Path.{_≡_, sym, ap, subst, _∙_}
 use mathlib.Core.Logic.{_⊎_, inl, inr, _≢_, _↔_}
 use mathlib.Core.Option.{some}
-use Prim.Native.Nat.{ℕ, _+_, _≤_, _<_}
+use Prim.Native.Nat.{ℕ, _+_, _<_}
 use native.Mathlib.Omega.{arith}
-use native.Mathlib.Decide.{ℕ-discrete}
 use Rattle.method.specs.Numbers.{infinite}
 use Rattle.method.specs.Graph.{Comes, GraphLaws, Hunt}
 use Rattle.method.specs.Tables.{Tables, gAt, rhsAt, parentAt, queuedAt, storedKey, Via, Least}
-use Rattle.method.specs.Steps.{Kind, put-back, lower, raise, kindOf, stepped}
+use Rattle.method.specs.Steps.{Kind, raise, kindOf, stepped}
 use Rattle.method.specs.Loop.{nextCell}
 use Rattle.method.specs.Session.{Session}
 use Rattle.method.specs.Sound.{Sound}
@@ -17,18 +16,20 @@ use Rattle.method.proofs.Notions.{Kept, Renewed, Raise, Did, did-put-back, did-
 use Rattle.method.proofs.Bounds.{During}
 use Rattle.method.proofs.Running.{did-next}
 use Rattle.method.proofs.Searching.{huntTaken, boundTaken, runTaken, during-sound, went-to}
 use Rattle.plan.specs.Cells.{Size, entered}
 use Rattle.plan.specs.Costs.{Plan, cells}
 use Rattle.plan.specs.Grid.{graphOf}
 use Rattle.plan.proofs.GridLaws.{graph-laws, into-is}
-use Rattle.demands.specs.Raise.{NeighbourWithParent, EnteredByParent, RaisedAsWritten}
+use Rattle.plan.specs.Raise.{NeighbourWithParent, EnteredByParent, RaisedAsWritten}
 
+-- A step whose kind is raise raises.
 raise-of : {H : Hunt} {T T′ : Tables} {u : ℕ} {k : Kind} → Did H T T′ u k → k ≡ raise → Raise H T T′ u
 raise-of (did-put-back b) e = differ cc
 raise-of (did-lower b) e = differ cc
 raise-of (did-raise b) e = b
 
 module _ (p : Plan) (z : Size (p .width) (p .height)) where
+  -- the plan is a graph of the method
   laws : GraphLaws (graphOf p)
   laws = graph-laws p z
 
@@ -48,11 +49,13 @@ module _ (p : Plan) (z : Size (p .width) (p .height)) where
             let e : v .from ≡ u = comes-from s (n .direction) (parentAt T s) (v .from) (v .cost) (n .byte) (v .comes) ∙ n .parent in
             record { cost = v .cost; open-move = laws .goes-out s (parentAt T s) u (v .cost) (subst (λ w. Comes (graphOf p) s (parentAt T s) w (v .cost)) e (v .comes)) }
 
+    -- an open move of u into s names u as the neighbour of s that its code says
     from : EnteredByParent p T s u → NeighbourWithParent p T s u
     from m =
         let o = into-is p (z .wide) s (parentAt T s) u (m .cost) (laws .comes-in s (parentAt T s) u (m .cost) (m .open-move)) in
         record { direction = o .direction; small = o .small; stays = o .stays-in; parent = sym (o .from); byte = o .named }
 
+    -- "each neighbour s with parent u" is each open move out of u that the parent code of the cell entered names.
     pub same-neighbours : NeighbourWithParent p T s u ↔ EnteredByParent p T s u
     same-neighbours = (to, from)
 

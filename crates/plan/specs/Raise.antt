@@ -1,14 +1,14 @@
 -- Raise: document 01 says "each neighbour s with parent u", the definition (`renewed`, `raised` in method/specs/Steps) walks the open moves out of u. The cells meant by each.
 use mathlib.Core.Path.{_≡_}
-use mathlib.Core.Logic.{_≢_, _↔_}
+use mathlib.Core.Logic.{_≢_}
 use mathlib.Core.List.{List·Memᴰ}
 use Prim.Native.Nat.{ℕ, _+_, _<_}
 use Rattle.method.specs.Numbers.{infinite}
 use Rattle.method.specs.Graph.{move, Hunt}
 use Rattle.method.specs.Tables.{Tables, gAt, rhsAt, parentAt, queuedAt, storedKey, Least}
 use Rattle.plan.specs.Cells.{Stays, entered}
 use Rattle.plan.specs.Costs.{Plan, cells}
 use Rattle.plan.specs.Grid.{graphOf}
 
 -- u is the neighbour of s that the parent byte of s names: "direction to the parent plus 1".
 pub record NeighbourWithParent (p : Plan) (T : Tables) (s u : ℕ) : Type 0 where
