@@ -75,6 +75,7 @@ pub record Taken : Type 0 where
   pub rhs : ℕ
   pub becomes : ℕ
 
+-- The steps in order, each with its cell's numbers in the tables that it finds.
 unfoldable pub takenFrom : Hunt → method.Tables → List Step → List Taken
 takenFrom H T [] = []
 takenFrom H T (x ∷ l) =

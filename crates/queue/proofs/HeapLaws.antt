@@ -27,6 +27,7 @@ pub keep-more : {lt : ℕ → ℕ → Bool} {count i p : ℕ} {place₀ list₀ 
 keep-more {lt} {count} {i} {p} k u d h o =
     absurd (true≢false (sym h ∙ ap (λ (l : List ℕ). lt (getD l i 0) (getD l p 0)) (k o .1) ∙ o .holds p i u d))
 
+-- One after the other.
 pub keep-both : {lt : ℕ → ℕ → Bool} {count : ℕ} {place₀ list₀ place list place′ list′ : List ℕ} → KeepsHeap lt count place₀ list₀ place list → KeepsHeap lt count place list place′ list′
     → KeepsHeap lt count place₀ list₀ place′ list′
 keep-both {lt} {count} a b o =
