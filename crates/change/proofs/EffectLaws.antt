@@ -11,6 +11,7 @@ use Rattle.method.specs.Graph.{Hunt}
 use Rattle.method.specs.Tables as method
 use Rattle.method.specs.Session.{moveChanged}
 use Rattle.method.proofs.Choices.{choose-is, choose-yes, choose-no}
+use Rattle.queue.specs.Queue.{EntryKept}
 use Rattle.plan.specs.Directions.{rowStep, columnStep}
 use Rattle.plan.specs.Costs.{IsByte, IsCost, withByte, Obeys}
 use Rattle.plan.specs.Grid.{graphOf}
@@ -100,7 +101,7 @@ module _ {s : Session} {t : Tables} {u d cost : ℕ} (W : Workable s t u d cost)
 
     -- the cell keeps its numbers: only the byte changed
     pub kept-worked : e ≡ Keeps → WorkedIn s t u d cost (s .count) (withPlan t (replanned s t u d cost))
-    kept-worked q = record { plan = refl; is = at A q; heap = W .sound .heap; untouched = λ _. (refl, refl) }
+    kept-worked q = record { plan = refl; is = at A q; heap = W .sound .heap; untouched = λ _. (refl, refl); kept = λ _ _ _. (refl, refl, refl) }
       where
         at : {e : Effect} → Asked s (replanned s t u d cost) (t .g) (t .rhs) (t .parent) v (backCode d) u (oldCost s t u d) cost e → e ≡ Keeps → core t ≡ methodChange s t u d cost
         at (keeps n) q = sym (change-kept _ (core t) v (backCode d) u (oldCost s t u d) cost n) ∙ change-at
@@ -175,7 +176,8 @@ module _ {s : Session} {t : Tables} {u d cost : ℕ} (W : Workable s t u d cost)
           at (rises n f l) q = (n, inr (f, l))
 
       pub set-worked : {a : Aim} {count : ℕ} {k1′ k2′ place′ list′ : List ℕ} → AimOf s a → Entered a v (t .g) (set (t .rhs) v r) (t .k1) (t .k2) (t .place) (t .list) count k1′ k2′ place′ list′
+          → EntryKept (s .count) (t .k1) (t .k2) (t .place) (t .list) count k1′ k2′ place′ list′
           → WorkedIn s t u d cost count (tables (replanned s t u d cost) (t .g) (set (t .rhs) v r) (set (t .parent) v p) k1′ k2′ place′ list′)
-      set-worked {a} {count} {k1′} {k2′} {place′} {list′} O E =
+      set-worked {a} {count} {k1′} {k2′} {place′} {list′} O E K =
           let B = subst (λ x. Entered x v (t .g) (set (t .rhs) v r) (t .k1) (t .k2) (t .place) (t .list) count k1′ k2′ place′ list′) (O .is) E (replanned s t u d cost) (set (t .parent) v p) in
-          record { plan = refl; is = B .is ∙ set-is; heap = B .heap; untouched = λ n. absurd (n (touches-at touched)) }
+          record { plan = refl; is = B .is ∙ set-is; heap = B .heap; untouched = λ n. absurd (n (touches-at touched)); kept = K }

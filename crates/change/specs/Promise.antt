@@ -5,7 +5,7 @@ use mathlib.Core.List.{List}
 use Prim.Native.Nat.{ℕ, _+_}
 use Rattle.method.specs.Tables as method
 use Rattle.method.specs.Session.{huntOf, moveChanged}
-use Rattle.queue.specs.Queue.{Heap}
+use Rattle.queue.specs.Queue.{Heap, EntryKept}
 use Rattle.plan.specs.Directions.{opposite}
 use Rattle.plan.specs.Cells.{entered}
 use Rattle.plan.specs.Costs.{byte, withByte}
@@ -43,12 +43,14 @@ abbrev pub methodChange : Session → Tables → ℕ → ℕ → ℕ → method.
 methodChange s t u d cost =
     moveChanged (huntOf (graph s (withPlan t (replanned s t u d cost))) (session s)) (core t) (enteredCell s u d) (backCode d) u (oldCost s t u d) cost
 
--- The change is worked in: the byte is set, the tables t became the method's, with a true heap of `count` cells. Where the cell entered is not written, only the byte changed.
+-- The change is worked in: the byte is set, the tables t became the method's, with a true heap of `count` cells. Where the cell entered is not written, only the byte changed;
+-- where its entry is set right to what it is already, list and places stay.
 pub record WorkedIn (s : Session) (t : Tables) (u d cost count : ℕ) (t′ : Tables) : Type 0 where
   pub plan : t′ .plan ≡ replanned s t u d cost
   pub is : core t′ ≡ methodChange s t u d cost
   pub heap : Heap (s .width) (cells s) count (t′ .k1) (t′ .k2) (t′ .place) (t′ .list)
   pub untouched : (Touches (s .origin) (t .g) (t .rhs) (t .parent) (enteredCell s u d) (backCode d) u (oldCost s t u d) cost → ⊥) → (count ≡ s .count) × (t′ ≡ withPlan t (replanned s t u d cost))
+  pub kept : EntryKept (s .count) (t .k1) (t .k2) (t .place) (t .list) count (t′ .k1) (t′ .k2) (t′ .place) (t′ .list)
 
 -- A refused change returns the record as it came and changes no table; else the count is the only field of the record that can change.
 pub record Changes (s : Session) (t : Tables) (u d cost : ℕ) (r : Reply) (t′ : Tables) : Type 0 where

@@ -1,5 +1,5 @@
 -- A cell's entry set right, way by way.
-use mathlib.Core.Path.{_≡_, refl, sym, ap, _∙_}
+use mathlib.Core.Path.{_≡_, refl, sym, _∙_}
 use mathlib.Core.Bool.{Bool, true, false, true≢false, false≢true}
 use mathlib.Core.Logic.{_≢_}
 use mathlib.Core.List.{List}
@@ -11,10 +11,9 @@ use Rattle.method.specs.Numbers.{infinite}
 use Rattle.method.specs.Tables as method
 use Rattle.method.proofs.Choices.{choose-yes, choose-no}
 use Rattle.method.proofs.Entries.{first-finite}
-use lib.Seq.{getD-set-same}
-use Rattle.queue.specs.Queue.{absent, members, Heap, Changed, SameKeys}
-use Rattle.queue.proofs.MemberLaws.{missing, length-members, member-at, place-member}
-use Rattle.queue.proofs.QueueLaws.{heap-as, absent-stays}
+use Rattle.queue.specs.Queue.{absent, members, Heap, Changed, EntryKept}
+use Rattle.queue.proofs.MemberLaws.{missing, member-at, place-member}
+use Rattle.queue.proofs.QueueLaws.{heap-as, changed-nothing, absent-stays}
 use Rattle.plan.specs.Cells.{Stands, estimate}
 use Rattle.plan.specs.Reached.{At, Placed, between}
 use Rattle.plan.specs.declared.Spot.{Spot}
@@ -24,7 +23,7 @@ use Rattle.tables.specs.Lent.{tables, core}
 use Rattle.tables.proofs.WalkLaws.{estimate-at}
 use Rattle.entries.specs.declared.Aim.{Aim}
 use Rattle.entries.specs.Aims.{area, hunt}
-use Rattle.entries.specs.Became.{Entering, Entered, EntryKept}
+use Rattle.entries.specs.Became.{Entering, Entered}
 
 -- The target's spot.
 abbrev pub goalSpot : Aim → Spot
@@ -63,6 +62,17 @@ module _ {a : Aim} {count cell : ℕ} {at : Spot} {g rhs k1 k2 place list : List
       → Entered a cell g rhs k1 k2 place list r k1′ k2′ place′ list′
   entered-by e C f plan parent = record { is = rw (C .key1, C .key2, C .membership) (f plan parent); heap = heap-as (C .heap) e refl }
 
+  -- a cell that is put in or taken out: its entry is not what it was
+  module _ {r first second : ℕ} {q : Bool} {k1′ k2′ place′ list′ : List ℕ} (C : Changed (a .width) (length list) r cell first second q k1 k2 place k1′ k2′ place′ list′) where
+    was : members place′ ≡ members place → getD (members place) cell false ≡ q
+    was = changed-nothing C (E .heap .tables .agree .lengthPlace ∙ sym (E .heap .tables .agree .lengthList)) (omega (arith, E .inside, E .heap .tables .agree .lengthList))
+
+    pub kept-in : q ≡ true → getD place cell 0 ≡ absent → EntryKept count k1 k2 place list r k1′ k2′ place′ list′
+    kept-in t o _ _ e = absurd (true≢false (sym (was e ∙ t) ∙ member-at place cell place-long ∙ missing o))
+
+    pub kept-out : q ≡ false → getD place cell 0 ≢ absent → EntryKept count k1 k2 place list r k1′ k2′ place′ list′
+    kept-out f o _ _ e = absurd (false≢true (sym (was e ∙ f) ∙ place-member place cell place-long o))
+
   -- g and rhs equal: the cell is to be absent
   module _ (e : getD g cell 0 ≡ getD rhs cell 0) where
     leaves : (plan parent : List ℕ) → method.withEntry (core (tables plan g rhs parent k1 k2 place list)) cell 0 0 false ≡ method.setRight (hunt a plan) (core (tables plan g rhs parent k1 k2 place list)) cell
@@ -76,16 +86,6 @@ module _ {a : Aim} {count cell : ℕ} {at : Spot} {g rhs k1 k2 place list : List
         → Entered a cell g rhs k1 k2 place list r k1′ k2′ place′ list′
     right-out C = entered-by (E .heap .tables .agree .lengthList) C leaves
 
-    -- an absent cell stays absent: nothing is written
-    pub kept-absent : EntryKept a cell g rhs k1 k2 place list count count place list
-    kept-absent plan parent _ = (refl, refl, refl)
-
-    -- a queued cell is taken out: its entry was not right
-    pub kept-out : {r : ℕ} {place′ list′ : List ℕ} → getD place cell 0 ≢ absent → EntryKept a cell g rhs k1 k2 place list count r place′ list′
-    kept-out o plan parent s =
-        let q = ap (λ (T : method.Tables). getD (T .queued) cell false) (leaves plan parent ∙ s) in
-        absurd (false≢true (sym (getD-set-same (members place) cell false false (omega (arith, length-members place, place-long))) ∙ q ∙ place-member place cell (omega (arith, place-long)) o))
-
   -- g and rhs differ: the cell is to be queued under its key
   module _ {m first : ℕ} (n : getD g cell 0 ≢ getD rhs cell 0) (em : m ≡ min (getD g cell 0) (getD rhs cell 0)) (ef : first ≡ m + between at (goalSpot a) + a .km) where
     first-is : (plan : List ℕ) → method.firstKey (hunt a plan) cell (min (getD g cell 0) (getD rhs cell 0)) ≡ first
@@ -98,18 +98,3 @@ module _ {a : Aim} {count cell : ℕ} {at : Spot} {g rhs k1 k2 place list : List
     pub right-in : {r : ℕ} {k1′ k2′ place′ list′ : List ℕ} → Changed (a .width) (length list) r cell first m true k1 k2 place k1′ k2′ place′ list′
         → Entered a cell g rhs k1 k2 place list r k1′ k2′ place′ list′
     right-in C = entered-by (E .heap .tables .agree .lengthList) C enters
-
-    -- an absent cell is put in: its entry was not right
-    pub kept-in : {r : ℕ} {place′ list′ : List ℕ} → getD place cell 0 ≡ absent → EntryKept a cell g rhs k1 k2 place list count r place′ list′
-    kept-in o plan parent s =
-        let q = ap (λ (T : method.Tables). getD (T .queued) cell false) (enters plan parent ∙ s) in
-        absurd (true≢false (sym (getD-set-same (members place) cell true false (omega (arith, length-members place, place-long))) ∙ q ∙ member-at place cell (omega (arith, place-long)) ∙ missing o))
-
-    -- a queued cell under the keys that it has: the queue writes neither list nor places
-    pub kept-under : {place′ list′ : List ℕ} → SameKeys cell first m k1 k2 place list place′ list′ → EntryKept a cell g rhs k1 k2 place list count count place′ list′
-    kept-under f plan parent s =
-        let e = enters plan parent ∙ s in
-        let one = ap (λ (T : method.Tables). getD (T .k1) cell 0) e in
-        let two = ap (λ (T : method.Tables). getD (T .k2) cell 0) e in
-        let k = f (sym one ∙ getD-set-same k1 cell first 0 (omega (arith, E .inside, E .heap .tables .length1))) (sym two ∙ getD-set-same k2 cell m 0 (omega (arith, E .inside, E .heap .tables .length2))) in
-        (refl, k .0, k .1)

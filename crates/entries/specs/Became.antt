@@ -37,12 +37,6 @@ Entered a cell g rhs k1 k2 place list count k1′ k2′ place′ list′ =
     (plan parent : List ℕ) → Became a count (tables plan g rhs parent k1′ k2′ place′ list′)
     (method.setRight (hunt a plan) (core (tables plan g rhs parent k1 k2 place list)) cell)
 
--- Where the entry is right already, under the same keys and still queued or still absent, list and places stay as they are, order and all.
-abbrev pub EntryKept : Aim → ℕ → List ℕ → List ℕ → List ℕ → List ℕ → List ℕ → List ℕ → ℕ → ℕ → List ℕ → List ℕ → Type 0
-EntryKept a cell g rhs k1 k2 place list count₀ count place′ list′ =
-    (plan parent : List ℕ) → method.setRight (hunt a plan) (core (tables plan g rhs parent k1 k2 place list)) cell ≡ core (tables plan g rhs parent k1 k2 place list)
-    → (count ≡ count₀) × (place′ ≡ place) × (list′ ≡ list)
-
 -- A sum and a parent as the method has them.
 abbrev pub foundOf : Found → method.Found
 foundOf f = method.found (f .rhs) (f .parent)

@@ -11,13 +11,14 @@ ghost use lib.ListN.{length, replicate};
 ghost use Rattle.method.specs.Numbers.{infinite};
 ghost use Rattle.method.specs.Tables.{leastOver, anew as anewOf, foundAnew};
 ghost use Rattle.method.specs.Session.{fresh as freshOf};
+ghost use Rattle.queue.specs.Queue.{EntryKept};
 ghost use Rattle.plan.specs.Costs.{Obeys, planOf};
 ghost use Rattle.plan.specs.Grid.{intoBy, graphOf};
 ghost use Rattle.plan.specs.Reached.{At, Placed, between};
 ghost use Rattle.tables.specs.Lent.{core, given, before, after, Fits};
 ghost use Rattle.entries.specs.Aims.{area, floor, hunt, AimOf, Aimed, Held, Small, mostG, mostRhs};
 ghost use Rattle.entries.specs.Begin.{Openable, begun, Opened};
-ghost use Rattle.entries.specs.Became.{Became, Entering, Entered, EntryKept, foundOf};
+ghost use Rattle.entries.specs.Became.{Became, Entering, Entered, foundOf};
 
 // What a search goes by: the plan's size, the hunter and the target taken over, the target's row and column, and km.
 pub struct Aim {
@@ -75,7 +76,7 @@ pub fn set_right(
 ) -> usize
     requires { ⌜ Entering a count cell at (now g) (now rhs) (now k1) (now k2) (now place) (now list) ⌝ }
     ensures { λ r. ⌜ Entered a cell (now (g .entry)) (now (rhs .entry)) (now (k1 .entry)) (now (k2 .entry)) (now (place .entry)) (now (list .entry)) r (now (k1 .exit)) (now (k2 .exit)) (now (place .exit)) (now (list .exit)) ⌝ }
-    ensures { λ r. ⌜ EntryKept a cell (now (g .entry)) (now (rhs .entry)) (now (k1 .entry)) (now (k2 .entry)) (now (place .entry)) (now (list .entry)) count r (now (place .exit)) (now (list .exit)) ⌝ }
+    ensures { λ r. ⌜ EntryKept count (now (k1 .entry)) (now (k2 .entry)) (now (place .entry)) (now (list .entry)) r (now (k1 .exit)) (now (k2 .exit)) (now (place .exit)) (now (list .exit)) ⌝ }
 {
     let x = g[cell];
     let y = rhs[cell];
@@ -172,6 +173,7 @@ pub fn found_anew(
     requires { ⌜ (cell < area a) × At (a .width) cell at ⌝ }
     ensures { λ r. ⌜ Became a r (after plan g rhs parent k1 k2 place list) (foundAnew (hunt a (now (plan .entry))) (core (before plan g rhs parent k1 k2 place list)) cell) ⌝ }
     ensures { λ _. ⌜ Small mostRhs (now (rhs .exit)) ⌝ }
+    ensures { λ r. ⌜ EntryKept count (now (k1 .entry)) (now (k2 .entry)) (now (place .entry)) (now (list .entry)) r (now (k1 .exit)) (now (k2 .exit)) (now (place .exit)) (now (list .exit)) ⌝ }
 {
     let f = anew(a.width, a.height, plan, g, cell);
     rhs[cell] = f.rhs;

@@ -5,9 +5,9 @@ use mathlib.Core.List.{List}
 use Prim.Native.Nat.{ℕ, _+_, _-_, _≤_, _<_}
 use native.Mathlib.Omega.{arith}
 use lib.ListN.{getD, set, length, length-set}
-use lib.Seq.{getD-set-same, getD-set-other, set-getD}
+use lib.Seq.{getD-set-same, getD-set-other}
 use Rattle.queue.specs.Order.{before}
-use Rattle.queue.specs.Queue.{absent, members, Agree, Tables, Ordered, Heap, Changed, SameKeys, LeastOf}
+use Rattle.queue.specs.Queue.{absent, members, Agree, Tables, Ordered, Heap, Changed, EntryKept, LeastOf}
 use Rattle.queue.specs.Sift.{Loose, KeepsHeap, placeAfter, listAfter}
 use Rattle.queue.proofs.CaseLaws.{split}
 use Rattle.queue.proofs.OrderLaws.{before-order, before-set}
@@ -52,12 +52,12 @@ module _ {width room count m c first second : ℕ} {q : Bool} {k1 k2 place list 
         };
       }
 
--- Under the keys that a cell has the order is as it was, so nothing moves.
-pub same-keys : (c first second : ℕ) {width room count : ℕ} {k1 k2 place list place′ list′ : List ℕ} → Heap width room count k1 k2 place list
-    → KeepsHeap (before width (set k1 c first) (set k2 c second)) count place list place′ list′ → SameKeys c first second k1 k2 place list place′ list′
-same-keys c first second {width} {count = count} {k1 = k1} {k2 = k2} {list = list} h keeps e f =
-    keeps (subst (λ (k : List ℕ). Ordered (before width k (set k2 c second)) count list) (sym (ap (set k1 c) (sym e) ∙ set-getD k1 c 0))
-    (subst (λ (k : List ℕ). Ordered (before width k1 k) count list) (sym (ap (set k2 c) (sym f) ∙ set-getD k2 c 0)) (h .ordered)))
+-- Under the same keys the order is as it was, so nothing moves.
+pub same-keys : {width room count : ℕ} {k1 k2 place list k1′ k2′ place′ list′ : List ℕ} → Heap width room count k1 k2 place list
+    → KeepsHeap (before width k1′ k2′) count place list place′ list′ → EntryKept count k1 k2 place list count k1′ k2′ place′ list′
+same-keys {width} {count = count} {k1 = k1} {list = list} {k2′ = k2′} h keeps e f _ =
+    let k = keeps (subst (λ (x : List ℕ). Ordered (before width x k2′) count list) (sym e) (subst (λ (x : List ℕ). Ordered (before width k1 x) count list) (sym f) (h .ordered))) in
+    (refl, k .0, k .1)
 
 -- ---- before it has
 

@@ -58,6 +58,11 @@ module _ {width room count cell first second : ℕ} {queued : Bool} {k1 k2 place
       ∙ ap (λ (z : List Bool). getD z cell false) (h .membership)
       ∙ getD-set-same (members place) cell queued false (omega (arith, length-members place))
 
+  -- Where no cell's membership changed, the cell was queued or not already, as the change says.
+  pub changed-nothing : cell < room → members place′ ≡ members place → getD (members place) cell false ≡ queued
+  changed-nothing d e =
+      ap (λ (z : List Bool). getD z cell false) (sym e ∙ h .membership) ∙ getD-set-same (members place) cell queued false (omega (arith, length-members place))
+
   pub changed-else : (x : ℕ) → x < room → (x ≡ cell → ⊥) → isPlace (getD place′ x 0) ≡ isPlace (getD place x 0)
   changed-else x d e =
       sym (member-at place′ x (omega (arith, h .heap .tables .agree .lengthPlace)))

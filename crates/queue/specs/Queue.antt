@@ -62,16 +62,17 @@ pub record Heap (width room count : ℕ) (k1 k2 place list : List ℕ) : Type 0 
 
 -- What each change promises. Primes mark the tables afterwards.
 -- Determined: both key tables, which cells are queued and so the count; and with them, by `heap`, the entries of absent cells and of unused places.
--- Left open: the order inside the list, with the places; the list is a binary heap again.
+-- Left open: the order inside the list, with the places; the list is a binary heap again. Where nothing changes, `EntryKept` leaves nothing open.
 pub record Changed (width room count cell first second : ℕ) (queued : Bool) (k1 k2 place k1′ k2′ place′ list′ : List ℕ) : Type 0 where
   pub key1 : k1′ ≡ set k1 cell first
   pub key2 : k2′ ≡ set k2 cell second
   pub membership : members place′ ≡ set (members place) cell queued
   pub heap : Heap width room count k1′ k2′ place′ list′
 
--- A queued cell that is put under the keys that it has: list and places stay as they are, order and all.
-abbrev pub SameKeys : (cell first second : ℕ) → List ℕ → List ℕ → List ℕ → List ℕ → List ℕ → List ℕ → Type 0
-SameKeys cell first second k1 k2 place list place′ list′ = getD k1 cell 0 ≡ first → getD k2 cell 0 ≡ second → (place′ ≡ place) × (list′ ≡ list)
+-- Where every entry is what it was, under the same keys, still queued or still absent, the count, the list and the places stay as they were, order and all.
+abbrev pub EntryKept : (count : ℕ) (k1 k2 place list : List ℕ) (count′ : ℕ) (k1′ k2′ place′ list′ : List ℕ) → Type 0
+EntryKept count k1 k2 place list count′ k1′ k2′ place′ list′ =
+    k1′ ≡ k1 → k2′ ≡ k2 → members place′ ≡ members place → (count′ ≡ count) × (place′ ≡ place) × (list′ ≡ list)
 
 -- `cell` is queued, and no queued cell comes before it. There is one such cell: `least-only` in proofs/QueueLaws.antt.
 pub record Least (width : ℕ) (k1 k2 : List ℕ) (queued : List Bool) (cell : ℕ) : Type 0 where

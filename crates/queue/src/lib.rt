@@ -6,7 +6,7 @@ ghost use Prim.Native.Nat.{_+_, _<_, _≤_};
 ghost use lib.ListN.{length, getD};
 ghost use Rattle.decide.specs.Decides.{Decides};
 ghost use Rattle.queue.specs.Order.{before, tied};
-ghost use Rattle.queue.specs.Queue.{absent, members, Tables, Ordered, Heap, Changed, SameKeys, LeastOf};
+ghost use Rattle.queue.specs.Queue.{absent, members, Tables, Ordered, Heap, Changed, EntryKept, LeastOf};
 ghost use Rattle.queue.specs.Rules.{EntryRule, Lengths};
 ghost use Rattle.queue.specs.Sift.{Loose, Low, KeepsHeap, placeAfter, listAfter, Keyed, Compares, Lesser};
 
@@ -198,7 +198,7 @@ pub fn put_in(
     count + 1
 }
 
-// Puts a queued cell under another key, (first, second). Under the keys that it has, nothing is written that changes list or places.
+// Puts a queued cell under another key, (first, second). Under the key that it has, list and places stay as they are.
 pub fn put_under(
     width: usize,
     k1: &mut [u32],
@@ -214,7 +214,7 @@ pub fn put_under(
     requires { ⌜ cell < length (now list) ⌝ }
     requires { ⌜ (getD (now place) cell 0 ≡ absent → ⊥) ⌝ }
     ensures { λ _. ⌜ Changed width (length (now (list .entry))) count cell first second true (now (k1 .entry)) (now (k2 .entry)) (now (place .entry)) (now (k1 .exit)) (now (k2 .exit)) (now (place .exit)) (now (list .exit)) ⌝ }
-    ensures { λ _. ⌜ SameKeys cell first second (now (k1 .entry)) (now (k2 .entry)) (now (place .entry)) (now (list .entry)) (now (place .exit)) (now (list .exit)) ⌝ }
+    ensures { λ _. ⌜ EntryKept count (now (k1 .entry)) (now (k2 .entry)) (now (place .entry)) (now (list .entry)) count (now (k1 .exit)) (now (k2 .exit)) (now (place .exit)) (now (list .exit)) ⌝ }
 {
     let i = wide(place[cell]);
     k1[cell] = first;

@@ -18,6 +18,7 @@ use Rattle.method.proofs.Facts.{rhs-le}
 use Rattle.method.proofs.Readying.{takenOver-sized, ready}
 use Rattle.method.proofs.Answers.{Stopped, Trail, trail, trail-way}
 use Rattle.method.proofs.Searching.{huntTaken, boundTaken, runTaken, during-start, went-to, ended}
+use Rattle.queue.specs.Queue.{members}
 use Rattle.plan.proofs.GridLaws.{graph-laws}
 use Rattle.plan.proofs.MoveLaws.{area}
 use Rattle.tables.specs.declared.Session.{Session}
@@ -59,6 +60,7 @@ module _ {s : Session} {t : Tables} (S : Sound s t) (e : s .hunter ≡ s .target
     shown = ew ∙ first-set way (s .hunter) (omega (arith, S .numbers .hunter-in)) ∙ sym (ap (λ o. written (cellsOf (o .answer)) way) caught-is);
     caught = λ _. (refl, refl);
     untouched = λ _ _ _. (refl, refl);
+    kept = λ _ _ _ _ _ _. (refl, refl, refl);
   }
 
 -- ---- the search proper
@@ -232,6 +234,10 @@ module _ {s : Session} {t : Tables} (S : Sound s t) where
               let f = F .untouched (steps-are ∙ ap (λ o. length (o .steps)) (sym search-is) ∙ ap length e) in
               let k = K .untouched h m in
               (f .0 ∙ k .0, f .1 ∙ k .1);
+          kept = λ m i e e1 e2 q.
+              let f = F .untouched (steps-are ∙ ap (λ o. length (o .steps)) (sym search-is) ∙ ap length e) in
+              let k = K .kept m i (ap (λ (x : Tables). x .k1) (sym (f .1)) ∙ e1) (ap (λ (x : Tables). x .k2) (sym (f .1)) ∙ e2) (ap (λ (x : Tables). members (x .place)) (sym (f .1)) ∙ q) in
+              (f .0 ∙ k .0, ap (λ (x : Tables). x .place) (f .1) ∙ k .1, ap (λ (x : Tables). x .list) (f .1) ∙ k .2);
         }
 
         pub searched : {way way′ : List ℕ} {x : Answer} → Answers a over steps rhs₂ parent₂ way x way′

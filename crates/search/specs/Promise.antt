@@ -3,10 +3,10 @@ use mathlib.Core.Path.{_≡_}
 use mathlib.Core.Logic.{_≢_}
 use mathlib.Core.List.{List, [], _++_}
 use Prim.Native.Nat.{ℕ, _≤_}
-use lib.ListN.{length, drop}
-use Rattle.method.specs.Numbers.{mostSearches}
+use lib.ListN.{length, getD, drop}
+use Rattle.method.specs.Numbers.{infinite, mostSearches}
 use Rattle.method.specs.Session as method
-use Rattle.queue.specs.Queue.{Heap}
+use Rattle.queue.specs.Queue.{Heap, EntryKept}
 use Rattle.tables.specs.declared.Session.{Session}
 use Rattle.tables.specs.Lent.{Tables, cells, graph, session, core}
 use Rattle.session.specs.Refusals.{Ruled, Passed, TableRules}
@@ -39,6 +39,9 @@ pub record Searched (s : Session) (t : Tables) (way : List ℕ) (r : Outcome) (t
   pub shown : way′ ≡ written (cellsOf (outcome s t .answer)) way
   pub caught : s .hunter ≡ s .target → (r .session ≡ s) × (t′ ≡ t)
   pub untouched : s .hunter ≡ s .origin → s .searches ≢ mostSearches → outcome s t .steps ≡ [] → (r .session .count ≡ s .count) × (t′ ≡ t)
+  -- no steps, and nothing starts fresh: where the entry of the hunter before is what it was, list and places stay
+  pub kept : s .searches ≢ mostSearches → getD (t .rhs) (s .hunter) 0 ≢ infinite → outcome s t .steps ≡ []
+      → EntryKept (s .count) (t .k1) (t .k2) (t .place) (t .list) (r .session .count) (t′ .k1) (t′ .k2) (t′ .place) (t′ .list)
 
 -- A refused search returns the record as it came and changes no table.
 pub record Searches (s : Session) (t : Tables) (way : List ℕ) (r : Outcome) (t′ : Tables) (way′ : List ℕ) : Type 0 where

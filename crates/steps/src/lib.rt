@@ -9,6 +9,7 @@ ghost use mathlib.Core.Path.{_≡_};
 ghost use Prim.Native.Nat.{_+_, _*_, _<_, _≤_};
 ghost use lib.ListN.{getD};
 ghost use Rattle.method.specs.Steps.{relaxedAll, lowered, renewedAll, raised, stepped};
+ghost use Rattle.queue.specs.Queue.{EntryKept};
 ghost use Rattle.plan.specs.Grid.{outBy};
 ghost use Rattle.plan.specs.Reached.{At};
 ghost use Rattle.tables.specs.Lent.{core, given, before, after};
@@ -39,6 +40,7 @@ fn relax(
     requires { ⌜ (u < area a) × At (a .width) u at × (d < 4) × (v ≤ mostG) ⌝ }
     ensures { λ r. ⌜ Became a r (after plan g rhs parent k1 k2 place list) (relaxedAll (hunt a (now (plan .entry))) v (core (before plan g rhs parent k1 k2 place list)) (outBy (floor a (now (plan .entry))) u d)) ⌝ }
     ensures { λ _. ⌜ Small mostRhs (now (rhs .exit)) ⌝ }
+    ensures { λ r. ⌜ EntryKept count (now (k1 .entry)) (now (k2 .entry)) (now (place .entry)) (now (list .entry)) r (now (k1 .exit)) (now (k2 .exit)) (now (place .exit)) (now (list .exit)) ⌝ }
 {
     let asked = choices::relaxation(a, plan, rhs, v, u, d);
     let choices::Relaxing::To(s, sum) = asked else {
@@ -102,6 +104,7 @@ fn renew(
     requires { ⌜ (u < area a) × At (a .width) u at × (d < 4) ⌝ }
     ensures { λ r. ⌜ Became a r (after plan g rhs parent k1 k2 place list) (renewedAll (hunt a (now (plan .entry))) (core (before plan g rhs parent k1 k2 place list)) (outBy (floor a (now (plan .entry))) u d)) ⌝ }
     ensures { λ _. ⌜ Small mostRhs (now (rhs .exit)) ⌝ }
+    ensures { λ r. ⌜ EntryKept count (now (k1 .entry)) (now (k2 .entry)) (now (place .entry)) (now (list .entry)) r (now (k1 .exit)) (now (k2 .exit)) (now (place .exit)) (now (list .exit)) ⌝ }
 {
     let asked = choices::child_by(a, plan, parent, u, d);
     let choices::Child::Is(s) = asked else {

@@ -16,6 +16,7 @@ use Rattle.plan.specs.declared.Spot.{Spot}
 use Rattle.plan.proofs.EstimateLaws.{estimate-le}
 use Rattle.plan.proofs.MoveLaws.{placed}
 use Rattle.tables.specs.declared.Session.{Session}
+use Rattle.queue.specs.Queue.{EntryKept}
 use Rattle.tables.specs.Lent.{Tables, tables, cells, graph, session, core}
 use Rattle.tables.specs.Sound.{Sound}
 use Rattle.tables.proofs.SoundLaws.{sound-fits}
@@ -127,7 +128,7 @@ module _ {s : Session} {t : Tables} (S : Sound s t) where
   module _ {r : Session} {t′ : Tables} where
     pub taken-late : s .searches ≡ 1000 → (r ≡ begun (s .width) (s .height) (s .hunter) (s .target)) × Opened (s .width) (s .height) (s .hunter) (s .target) t t′ → Takes s t r t′
     unfolding calls.takenOver
-    taken-late e B = record { holds = subst (λ m. Holds s m r t′) (sym (choose-yes (ℕ-discrete (s .searches) mostSearches) _ _ e)) (begun-holds B); untouched = λ _ n. absurd (n e) }
+    taken-late e B = record { holds = subst (λ m. Holds s m r t′) (sym (choose-yes (ℕ-discrete (s .searches) mostSearches) _ _ e)) (begun-holds B); untouched = λ _ n. absurd (n e); kept = λ n _. absurd (n e) }
 
     module _ (early : s .searches ≢ 1000) where
       pub taken-same : s .hunter ≡ s .origin → r ≡ aimedAnew s → t′ ≡ t → Takes s t r t′
@@ -139,6 +140,7 @@ module _ {s : Session} {t : Tables} (S : Sound s t) where
             (subst (λ x. Holds s (record { session = calls.targetTaken (graph s t) (session s); tables = core t }) (aimedAnew s) x) (sym et)
             (record { wide = refl; high = refl; record-is = refl; tables-are = refl; heap = S .heap })));
         untouched = λ _ _. (ap (λ (x : Session). x .count) er, et);
+        kept = λ _ _ _ _ _. (ap (λ (x : Session). x .count) er, ap (λ (x : Tables). x .place) et, ap (λ (x : Tables). x .list) et);
       }
 
       pub taken-far : s .hunter ≢ s .origin → getD (t .rhs) (s .hunter) 0 ≡ infinite → (r ≡ begun (s .width) (s .height) (s .hunter) (s .target)) × Opened (s .width) (s .height) (s .hunter) (s .target) t t′
@@ -150,15 +152,18 @@ module _ {s : Session} {t : Tables} (S : Sound s t) where
             (sym (choose-no (ℕ-discrete (s .searches) mostSearches) _ _ early ∙ choose-no (ℕ-discrete (s .hunter) (s .origin)) _ _ n ∙ choose-yes (ℕ-discrete (getD (t .rhs) (s .hunter) 0) infinite) _ _ e))
             (begun-holds B);
         untouched = λ h _. absurd (n h);
+        kept = λ _ f. absurd (f e);
       }
 
-      pub taken-new : {m : Session} → s .hunter ≢ s .origin → getD (t .rhs) (s .hunter) 0 ≢ infinite → m ≡ aimedAnew s → Holds m (handOver m t) r t′ → Takes s t r t′
+      pub taken-new : {m : Session} → s .hunter ≢ s .origin → getD (t .rhs) (s .hunter) 0 ≢ infinite → m ≡ aimedAnew s → Holds m (handOver m t) r t′
+          → EntryKept (m .count) (t .k1) (t .k2) (t .place) (t .list) (r .count) (t′ .k1) (t′ .k2) (t′ .place) (t′ .list) → Takes s t r t′
       unfolding calls.takenOver
-      taken-new n f e H = record {
+      taken-new n f e H K = record {
         holds =
             let h = subst (λ x. Holds x (handOver x t) r t′) e H in
             subst (λ m. Holds s m r t′)
             (sym (choose-no (ℕ-discrete (s .searches) mostSearches) _ _ early ∙ choose-no (ℕ-discrete (s .hunter) (s .origin)) _ _ n ∙ choose-no (ℕ-discrete (getD (t .rhs) (s .hunter) 0) infinite) _ _ f))
             (record { wide = h .wide; high = h .high; record-is = h .record-is; tables-are = h .tables-are; heap = h .heap });
         untouched = λ h _. absurd (n h);
+        kept = λ _ _. subst (λ (x : Session). EntryKept (x .count) (t .k1) (t .k2) (t .place) (t .list) (r .count) (t′ .k1) (t′ .k2) (t′ .place) (t′ .list)) e K;
       }

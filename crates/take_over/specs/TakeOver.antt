@@ -2,10 +2,11 @@
 use mathlib.Core.Path.{_≡_}
 use mathlib.Core.Logic.{_≢_}
 use Prim.Native.Nat.{_+_, _≤_, _<_}
-use Rattle.method.specs.Numbers.{mostSearches}
+use lib.ListN.{getD}
+use Rattle.method.specs.Numbers.{infinite, mostSearches}
 use Rattle.method.specs.Tables.{Sized}
 use Rattle.method.specs.Session.{State, huntOf, hunterTaken, handedOver, takenOver}
-use Rattle.queue.specs.Queue.{Heap}
+use Rattle.queue.specs.Queue.{Heap, EntryKept}
 use Rattle.plan.specs.Cells.{Size, estimate}
 use Rattle.plan.specs.Costs.{Obeys}
 use Rattle.tables.specs.declared.Session.{Session}
@@ -20,10 +21,13 @@ pub record Holds (s : Session) (m : State) (r : Session) (t : Tables) : Type 0 w
   pub tables-are : core t ≡ m .tables
   pub heap : Heap (s .width) (cells s) (r .count) (t .k1) (t .k2) (t .place) (t .list)
 
--- What taking over leaves of the record s and the tables t: the method's state. Where the hunter stays and nothing starts fresh, no table is written, list and places neither.
+-- What taking over leaves of the record s and the tables t: the method's state. Where the hunter stays and nothing starts fresh, no table is written, list and places neither;
+-- where a hunter with a finite rhs is taken over and the old hunter's entry, found anew, is what it was, list and places stay.
 pub record Takes (s : Session) (t : Tables) (r : Session) (t′ : Tables) : Type 0 where
   pub holds : Holds s (takenOver (graph s t) (session s) (core t)) r t′
   pub untouched : s .hunter ≡ s .origin → s .searches ≢ mostSearches → (r .count ≡ s .count) × (t′ ≡ t)
+  pub kept : s .searches ≢ mostSearches → getD (t .rhs) (s .hunter) 0 ≢ infinite
+      → EntryKept (s .count) (t .k1) (t .k2) (t .place) (t .list) (r .count) (t′ .k1) (t′ .k2) (t′ .place) (t′ .list)
 
 -- The target can be taken over: both targets are in the plan, and km leaves room for one more estimate.
 pub record Aiming (s : Session) : Type 0 where

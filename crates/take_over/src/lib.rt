@@ -4,6 +4,7 @@ use plan;
 use tables;
 use tables::Session;
 ghost use mathlib.Core.Path.{_≡_};
+ghost use Rattle.queue.specs.Queue.{EntryKept};
 ghost use Rattle.tables.specs.Lent.{given, before, after};
 ghost use Rattle.tables.specs.Sound.{Sound};
 ghost use Rattle.take_over.specs.TakeOver.{aimedAnew, handOver, Aiming, Handing, Holds, Takes};
@@ -35,6 +36,7 @@ fn hand_over(
 ) -> Session
     requires { ⌜ Handing s (given plan g rhs parent k1 k2 place list) ⌝ }
     ensures { λ r. ⌜ Holds s (handOver s (before plan g rhs parent k1 k2 place list)) r (after plan g rhs parent k1 k2 place list) ⌝ }
+    ensures { λ r. ⌜ EntryKept (s .count) (now (k1 .entry)) (now (k2 .entry)) (now (place .entry)) (now (list .entry)) (r .count) (now (k1 .exit)) (now (k2 .exit)) (now (place .exit)) (now (list .exit)) ⌝ }
 {
     let h = s.hunter;
     parent[h] = 0;

@@ -90,7 +90,9 @@ same-length-10 : tie.Need-same-length-10
 same-length-10 c = search needs
 
 returns-2 : tie.Need-returns-2
-returns-2 c = set-worked (c .before .before .before .before .before .before .before .before .before .before .before .before .before .before .before .before .before .before .before .before .before .before .before .before .before .before .before .before .before .before .before .before .before .pre) (c .before .before .before .before .before .before .before .before .before .before .before .before .before .before .before .before .before .before .before .before .before .before .before .before .entered .ensures) (c .before .before .before .before .before .before .before .before .before .before .before .before .before .before .before .before .before .before .before .effect-of .ensures) (c .before .before .before .before .before .before .before .before .before .before .before .before .before .before .before .before .before .effect .given .1) (c .before .before .before .before .before .before .before .before .before .before .before .before .before .before .before .aim-of .ensures) (c .before .before .before .before .before .before .before .before .set-right .ensures .0)
+returns-2 c =
+    let e = c .before .before .before .before .before .before .before .before .set-right .ensures in
+    set-worked (c .before .before .before .before .before .before .before .before .before .before .before .before .before .before .before .before .before .before .before .before .before .before .before .before .before .before .before .before .before .before .before .before .before .pre) (c .before .before .before .before .before .before .before .before .before .before .before .before .before .before .before .before .before .before .before .before .before .before .before .before .entered .ensures) (c .before .before .before .before .before .before .before .before .before .before .before .before .before .before .before .before .before .before .before .effect-of .ensures) (c .before .before .before .before .before .before .before .before .before .before .before .before .before .before .before .before .before .effect .given .1) (c .before .before .before .before .before .before .before .before .before .before .before .before .before .before .before .aim-of .ensures) (e .0) (e .1)
 
 pub work-in-spec : {M : Type 1} → statement M
 work-in-spec =

@@ -43,7 +43,8 @@ returns : tie.Need-returns
 returns c =
     let p = c .before .before .before .before .before .before .before .before .before .before .before .before .before .before .before .before .before .before .before .before .before .before .before .pre in
     let f = found-small _ _ (p .0) (p .1 .1 .0 .0) (c .before .before .before .before .before .before .before .before .before .before .before .before .before .before .anew .ensures) in
-    (became-anew _ _ _ _ _ _ _ (c .before .before .before .before .before .before .before .before .before .before .before .before .before .before .before .before .before .before .before .before .before .before .before .args .list .now) (c .before .before .before .before .before .before .before .before .before .before .before .before .before .before .anew .ensures) (c .before .before .before .before .before .before .before .before .set-right .ensures .0), small-rhs _ _ (p .1 .0) (p .1 .1 .1 .0) f (p .1 .1 .0 .1))
+    let e = c .before .before .before .before .before .before .before .before .set-right .ensures in
+    (became-anew _ _ _ _ _ _ _ (c .before .before .before .before .before .before .before .before .before .before .before .before .before .before .before .before .before .before .before .before .before .before .before .args .list .now) (c .before .before .before .before .before .before .before .before .before .before .before .before .before .before .anew .ensures) (e .0), (small-rhs _ _ (p .1 .0) (p .1 .1 .1 .0) f (p .1 .1 .0 .1), e .1))
 
 pub found-anew-spec : {M : Type 1} → statement M
 found-anew-spec =

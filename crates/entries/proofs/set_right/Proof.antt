@@ -1,5 +1,6 @@
+use mathlib.Core.Path.{refl}
 use native.Mathlib.Omega.{arith}
-use Rattle.entries.proofs.EntryLaws.{cell-placed, goal-placed, key-room, heap-here, right-absent, right-out, right-in, kept-absent, kept-out, kept-in, kept-under}
+use Rattle.entries.proofs.EntryLaws.{cell-placed, goal-placed, key-room, heap-here, right-absent, right-out, right-in, kept-in, kept-out}
 use borrow.Author.Needs.{needs}
 use Rattle.entries.proofs.set_right.Statement.{statement}
 use Rattle.entries.proofs.set_right.Tie as tie
@@ -26,7 +27,7 @@ returns : tie.Need-returns
 returns c =
     let E = c .before .before .before .before .before .before .before .before .before .before .before .pre in
     let e = c .before .if1 .taken in
-    (right-absent E e (c .if2 .taken), kept-absent E e)
+    (right-absent E e (c .if2 .taken), λ _ _ _. (refl, refl, refl))
 
 take-out-requires : tie.Need-take-out-requires
 take-out-requires c κs =
@@ -49,7 +50,8 @@ returns-2 : tie.Need-returns-2
 returns-2 c =
     let E = c .before .before .before .before .before .before .before .before .before .before .before .before .before .before .before .before .before .before .before .before .before .before .before .before .pre in
     let e = c .before .before .before .before .before .before .before .before .before .before .before .before .before .before .if1 .taken in
-    (right-out E e (c .before .before .before .before .before .before .before .before .take-out .ensures .1), kept-out E e (c .before .before .before .before .before .before .before .before .before .before .before .before .before .if2 .left))
+    let q = c .before .before .before .before .before .before .before .before .take-out .ensures .1 in
+    (right-out E e q, kept-out E q refl (c .before .before .before .before .before .before .before .before .before .before .before .before .before .if2 .left))
 
 lesser-requires : tie.Need-lesser-requires
 lesser-requires c κs = search needs
@@ -82,7 +84,8 @@ returns-3 c =
     let n = c .before .before .before .before .before .before .before .before .before .before .before .before .before .before .before .before .if1 .left in
     let l = c .before .before .before .before .before .before .before .before .before .before .before .before .before .before .before .lesser .ensures in
     let f = c .before .before .before .before .before .before .before .before .before .before .before .before .before .before .first-key .ensures in
-    (right-in E n l f (c .before .before .before .before .before .before .before .before .put-in .ensures .1), kept-in E n l f (c .before .before .before .before .before .before .before .before .before .before .before .before .before .if3 .taken))
+    let q = c .before .before .before .before .before .before .before .before .put-in .ensures .1 in
+    (right-in E n l f q, kept-in E q refl (c .before .before .before .before .before .before .before .before .before .before .before .before .before .if3 .taken))
 
 put-under-requires : tie.Need-put-under-requires
 put-under-requires c κs =
@@ -108,7 +111,7 @@ returns-4 c =
     let l = c .before .before .before .before .before .before .before .before .before .before .before .before .before .before .before .lesser .ensures in
     let f = c .before .before .before .before .before .before .before .before .before .before .before .before .before .before .first-key .ensures in
     let q = c .before .before .before .before .before .before .before .before .put-under .ensures in
-    (right-in E n l f (q .0), kept-under E n l f (q .1))
+    (right-in E n l f (q .0), q .1)
 
 pub set-right-spec : {M : Type 1} → statement M
 set-right-spec =

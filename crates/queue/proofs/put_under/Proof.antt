@@ -47,7 +47,7 @@ returns c =
     let h = c .before .before .before .before .before .before .before .before .before .before .before .before .before .before .before .pre in
     let s = c .before .before .before .before .settle .ensures in
     let members = s .1 .0 ∙ put-under-members (h .0) (h .1 .0) (h .1 .1) (c .before .before .before .before .before .before .before .before .before .wide .ensures) in
-    (done (h .0) (h .1 .0) (λ z. absurd (never refl z)) (s .0) members (s .1 .1 .0), same-keys _ _ _ (h .0) (s .1 .1 .1))
+    (done (h .0) (h .1 .0) (λ z. absurd (never refl z)) (s .0) members (s .1 .1 .0), same-keys (h .0) (s .1 .1 .1))
 
 pub put-under-spec : {M : Type 1} → statement M
 put-under-spec =

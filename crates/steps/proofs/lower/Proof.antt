@@ -66,7 +66,7 @@ loop-again : tie.Need-loop-again Inv-loop μ-loop
 loop-again c =
     let i = c .before .before .before .before .before .before .before .before .before .before .before .before .before .before .before .before .before .before .before .before .before .loop .inv in
     let e = c .before .before .before .before .before .before .before .before .before .before .before .before .relax .ensures in
-    (omega (arith, c .before .before .before .before .before .before .before .before .before .before .before .before .before .before .before .before .before .before .before .before .loop-test .taken), relaxed-more _ _ _ _ _ (i .1) (e .0 .is), became-held (relaxedAll-sized (i .2 .sized) _ _ _) (e .0), e .1)
+    (omega (arith, c .before .before .before .before .before .before .before .before .before .before .before .before .before .before .before .before .before .before .before .before .loop-test .taken), relaxed-more _ _ _ _ _ (i .1) (e .0 .is), became-held (relaxedAll-sized (i .2 .sized) _ _ _) (e .0), e .1 .0)
 
 same-length : tie.Need-same-length Inv-loop μ-loop
 same-length c = search needs

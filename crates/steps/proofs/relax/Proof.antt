@@ -22,7 +22,7 @@ same-length c = search needs
 returns : tie.Need-returns
 returns c =
     let p = c .before .before .before .before .before .before .before .before .before .before .before .before .pre in
-    (became-same (p .1 .0) (asked-nothing _ _ _ _ _ _ (c .enum-told .given .1) (c .before .before .relaxation .ensures) _ refl), p .1 .1 .0 .1)
+    (became-same (p .1 .0) (asked-nothing _ _ _ _ _ _ (c .enum-told .given .1) (c .before .before .relaxation .ensures) _ refl), (p .1 .1 .0 .1, λ _ _ _. (refl, refl, refl)))
 
 moved-requires : tie.Need-moved-requires
 moved-requires c κs =
@@ -82,7 +82,8 @@ returns-2 : tie.Need-returns-2
 returns-2 c =
     let p = c .before .before .before .before .before .before .before .before .before .before .before .before .before .before .before .before .before .before .before .before .before .before .before .before .before .before .before .before .pre in
     let r = asked-to _ _ _ _ _ _ (c .before .before .before .before .before .before .before .before .before .before .before .before .before .before .before .before .asked .given .1) (c .before .before .before .before .before .before .before .before .before .before .before .before .before .before .before .before .before .before .relaxation .ensures) in
-    (became-as (c .before .before .before .before .before .before .before .before .set-right .ensures .0 _ _) (sym (r .is _ refl)), small-rhs _ _ (p .1 .0) (r .enters .inside) (sum-small (r .sum-le) (p .1 .1 .1 .3)) (p .1 .1 .0 .1))
+    let e = c .before .before .before .before .before .before .before .before .set-right .ensures in
+    (became-as (e .0 _ _) (sym (r .is _ refl)), (small-rhs _ _ (p .1 .0) (r .enters .inside) (sum-small (r .sum-le) (p .1 .1 .1 .3)) (p .1 .1 .0 .1), e .1))
 
 pub relax-spec : {M : Type 1} → statement M
 relax-spec =

@@ -19,7 +19,7 @@ same-length c = search needs
 returns : tie.Need-returns
 returns c =
     let p = c .before .before .before .before .before .before .before .before .before .before .before .before .pre in
-    (became-same (p .1 .0) (asked-not _ _ _ _ _ (c .enum-told .given .1) (c .before .before .child-by .ensures) _ refl), p .1 .1 .0 .1)
+    (became-same (p .1 .0) (asked-not _ _ _ _ _ (c .enum-told .given .1) (c .before .before .child-by .ensures) _ refl), (p .1 .1 .0 .1, λ _ _ _. (refl, refl, refl)))
 
 moved-requires : tie.Need-moved-requires
 moved-requires c κs =

@@ -34,7 +34,9 @@ same-length-6 : tie.Need-same-length-6
 same-length-6 c = search needs
 
 returns : tie.Need-returns
-returns c = hand-holds (c .before .before .before .before .before .before .before .before .before .before .before .before .before .before .before .before .before .before .before .before .before .before .before .before .before .before .before .before .before .pre) (c .before .before .before .before .before .before .before .before .before .before .before .before .before .before .before .before .before .before .before .before .aim-of .ensures) (c .before .before .before .before .before .before .before .before .before .before .before .before .found-anew .ensures .0)
+returns c =
+    let e = c .before .before .before .before .before .before .before .before .before .before .before .before .found-anew .ensures in
+    (hand-holds (c .before .before .before .before .before .before .before .before .before .before .before .before .before .before .before .before .before .before .before .before .before .before .before .before .before .before .before .before .before .pre) (c .before .before .before .before .before .before .before .before .before .before .before .before .before .before .before .before .before .before .before .before .aim-of .ensures) (e .0), e .1 .1)
 
 pub hand-over-spec : {M : Type 1} → statement M
 hand-over-spec =
