@@ -1,4 +1,4 @@
--- Soundness as the check looks at it: rules that are local to the record, to one cell, or to one cell and direction.
+-- Soundness as the check looks at it: rules that are local to the record, to one cell, or to one cell and direction; and the first place at fault, where it stops.
 use mathlib.Core.Path.{_≡_}
 use mathlib.Core.Logic.{_⊎_, _≢_}
 use mathlib.Core.List.{List}
@@ -11,6 +11,8 @@ use Rattle.plan.specs.Directions.{opposite}
 use Rattle.plan.specs.Cells.{Stays, entered, estimate}
 use Rattle.plan.specs.Costs.{Plan, byte, shut, IsByte}
 use Rattle.tables.specs.declared.Session.{Session}
+use Rattle.tables.specs.declared.Fault.{Fault}
+use Rattle.tables.specs.declared.Fault.the-variants.{Nowhere, InRecord, InCell, InMove}
 use Rattle.tables.specs.Lent.{Tables, cells, floor}
 
 -- The greatest finite number after so many searches.
@@ -77,7 +79,31 @@ pub record AloneRule (s : Session) (g rhs parent k1 k2 place list : List ℕ) (u
   pub cell : CellRule (s .count) k1 k2 place list u
   pub value : ValueRule s g rhs parent k1 k2 place u
 
+-- The two rules that the walk tests, of the tables t: cell u by itself, and its move in direction d.
+abbrev pub AloneIn : Session → Tables → ℕ → Type 0
+AloneIn s t u = AloneRule s (t .g) (t .rhs) (t .parent) (t .k1) (t .k2) (t .place) (t .list) u
+
+abbrev pub WayIn : Session → Tables → ℕ → ℕ → Type 0
+WayIn s t u d = WayRule (floor s (t .plan)) (t .rhs) (t .parent) (s .origin) (getD (t .g) u 0) u d
+
 -- Every rule of cell u.
 pub record CellRules (s : Session) (t : Tables) (u : ℕ) : Type 0 where
-  pub alone : AloneRule s (t .g) (t .rhs) (t .parent) (t .k1) (t .k2) (t .place) (t .list) u
-  pub ways : (d : ℕ) → d < 4 → WayRule (floor s (t .plan)) (t .rhs) (t .parent) (s .origin) (getD (t .g) u 0) u d
+  pub alone : AloneIn s t u
+  pub ways : (d : ℕ) → d < 4 → WayIn s t u d
+
+-- Every rule before cell u: those of the record, and of each cell before u.
+pub record RulesBefore (s : Session) (t : Tables) (u : ℕ) : Type 0 where
+  pub numbers : Numbers s
+  pub each-cell : (v : ℕ) → v < u → CellRules s t v
+
+-- "The check of this stops at the first cell and direction at fault." The order: the record; then cell by cell, first the cell by itself, then its moves in direction order.
+-- Every rule before the place named holds, and the rule there fails.
+pub data FirstFault (s : Session) (t : Tables) : Fault → Type 0 where
+  -- every rule holds
+  nowhere : RulesBefore s t (cells s) → FirstFault s t Nowhere
+  -- the record's own numbers fail
+  in-record : (Numbers s → ⊥) → FirstFault s t InRecord
+  -- cell u by itself fails
+  in-cell : {u : ℕ} → u < cells s → RulesBefore s t u → (AloneIn s t u → ⊥) → FirstFault s t (InCell u)
+  -- cell u by itself holds, and so do its moves before direction d; the move in direction d fails
+  in-move : {u d : ℕ} → u < cells s → d < 4 → RulesBefore s t u → AloneIn s t u → ((e : ℕ) → e < d → WayIn s t u e) → (WayIn s t u d → ⊥) → FirstFault s t (InMove u d)

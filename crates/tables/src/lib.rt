@@ -13,7 +13,7 @@ ghost use Rattle.plan.specs.Costs.{planOf};
 ghost use Rattle.plan.specs.Reached.{At};
 ghost use Rattle.tables.specs.Lent.{cells, given, before, Fits};
 ghost use Rattle.tables.specs.Sound.{Sound};
-ghost use Rattle.tables.specs.Rules.{Numbers, SumRule, MoveRule, WayRule, OwnRule, NotAbove, WaitingRule, AloneRule};
+ghost use Rattle.tables.specs.Rules.{Numbers, SumRule, MoveRule, WayRule, OwnRule, NotAbove, WaitingRule, AloneRule, FirstFault};
 
 // The session record: the plan's size, hunter and target as placed, those of the last search taken over (origin and goal), km, the queue's count, and the number of searches since the last fresh start.
 #[repr(C)]
@@ -281,7 +281,55 @@ fn alone_holds(
     waiting_holds(s, k1, k2, place, list, x, y, u, at, aim)
 }
 
-// Are the tables sound? One walk over cells and directions, left at the first at fault; row and column are carried along.
+// Where the check finds a rule broken: nowhere, in the record's own numbers, in a cell by itself, or in a cell's move in a direction.
+pub enum Fault {
+    Nowhere,
+    InRecord,
+    InCell(usize),
+    InMove(usize, usize),
+}
+
+// The first place at fault. One walk over cells and directions, left as soon as one rule fails; row and column are carried along.
+pub fn first_fault(
+    s: Session,
+    plan: &[u8],
+    g: &[u32],
+    rhs: &[u32],
+    parent: &[u8],
+    k1: &[u32],
+    k2: &[u32],
+    place: &[u16],
+    list: &[u16],
+) -> Fault
+    requires { ⌜ Size (s .width) (s .height) ⌝ }
+    requires { ⌜ Fits (cells s) (given plan g rhs parent k1 k2 place list) ⌝ }
+    ensures { λ r. ⌜ FirstFault s (before plan g rhs parent k1 k2 place list) r ⌝ }
+{
+    if !numbers_hold(s) {
+        return Fault::InRecord;
+    }
+    let cells = s.height * s.width;
+    let aim = plan::spot_of(s.width, s.goal);
+    let mut at = Spot { row: 0, column: 0 };
+    let mut fault = Fault::Nowhere;
+    'cells: for u in 0..cells {
+        if !alone_holds(s, g, rhs, parent, k1, k2, place, list, u, at, aim) {
+            fault = Fault::InCell(u);
+            break 'cells;
+        }
+        let x = g[u];
+        for d in 0..4 {
+            if !way_holds(s.width, s.height, s.origin, plan, rhs, parent, x, u, at, d) {
+                fault = Fault::InMove(u, d);
+                break 'cells;
+            }
+        }
+        at = plan::onward(s.width, at);
+    }
+    fault
+}
+
+// Are the tables sound? Yes exactly if no place is at fault.
 pub fn is_sound(
     s: Session,
     plan: &[u8],
@@ -297,26 +345,9 @@ pub fn is_sound(
     requires { ⌜ Fits (cells s) (given plan g rhs parent k1 k2 place list) ⌝ }
     ensures { λ r. ⌜ Decides r (Sound s (before plan g rhs parent k1 k2 place list)) ⌝ }
 {
-    if !numbers_hold(s) {
-        return false;
+    let fault = first_fault(s, plan, g, rhs, parent, k1, k2, place, list);
+    if let Fault::Nowhere = fault {
+        return true;
     }
-    let cells = s.height * s.width;
-    let aim = plan::spot_of(s.width, s.goal);
-    let mut at = Spot { row: 0, column: 0 };
-    let mut ok = true;
-    'cells: for u in 0..cells {
-        if !alone_holds(s, g, rhs, parent, k1, k2, place, list, u, at, aim) {
-            ok = false;
-            break 'cells;
-        }
-        let x = g[u];
-        for d in 0..4 {
-            if !way_holds(s.width, s.height, s.origin, plan, rhs, parent, x, u, at, d) {
-                ok = false;
-                break 'cells;
-            }
-        }
-        at = plan::onward(s.width, at);
-    }
-    ok
+    false
 }
