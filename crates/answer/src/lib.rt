@@ -4,7 +4,7 @@ use plan;
 use tables;
 ghost use mathlib.Core.Path.{_≡_};
 ghost use Rattle.answer.specs.Way.{parentOf, Linked, Followed, Leading, Counts, Shows};
-ghost use Rattle.answer.specs.Answer.{Answering, Answers};
+ghost use Rattle.answer.specs.Answer.{toldBy, Answering, Answers};
 
 // Caught at a cell; no way, after so many steps; a way: its cost, the steps, the number of its cells; or refused with document 01's number.
 pub enum Answer {
@@ -63,7 +63,7 @@ pub fn answered(
     way: &mut [u16],
 ) -> Answer
     requires { ⌜ Answering a (now rhs) (now parent) (now way) ⌝ }
-    ensures { λ r. ⌜ Answers a ended steps (now (rhs .entry)) (now (parent .entry)) (now (way .entry)) r (now (way .exit)) ⌝ }
+    ensures { λ r. ⌜ Answers a ended steps (now (rhs .entry)) (now (parent .entry)) (now (way .entry)) (toldBy r (now (way .exit))) (now (way .exit)) ⌝ }
 {
     if !ended {
         return Answer::Refused(9);

@@ -1,5 +1,5 @@
--- The rules of each call give one number; number 0 gives every rule, and where every rule holds the number is 0.
-use mathlib.Core.Path.{_≡_, refl, sym, ap}
+-- What is told by a number, and the answer read off it. The rules of each call give one number; number 0 gives every rule, and where every rule holds the number is 0.
+use mathlib.Core.Path.{_≡_, refl, sym, ap, _∙_}
 use mathlib.Core.Logic.{_≢_}
 use Prim.Native.Nat.{ℕ, zero, suc, _<_}
 use native.Mathlib.Omega.{arith}
@@ -7,19 +7,47 @@ use Rattle.plan.specs.Cells.{Size}
 use Rattle.tables.specs.declared.Session.{Session}
 use Rattle.tables.specs.Lent.{Tables, cells}
 use Rattle.tables.specs.Sound.{Sound}
+use Rattle.tables.specs.Told.{Name, done, caught, none-leads, way, refusal, toldDone, toldRefusal, toldNumber}
 use Rattle.tables.proofs.SoundLaws.{sound-fits}
 use Rattle.entries.specs.Begin.{Openable}
+use Rattle.session.specs.declared.Answer.{Answer}
 use Rattle.session.specs.declared.Answer.the-variants.{Done, Refused}
-use Rattle.session.specs.Refusals.{Ruled, fails, holds, Passed, passed, answered, PlaceRules, OpenRules, TableRules}
+use Rattle.session.specs.Refusals.{Ruled, fails, holds, Passed, passed, toldBy, answered, PlaceRules, OpenRules, TableRules}
 
--- ---- answers
+-- ---- what is told
 
-pub answer-refused : (n : ℕ) → n ≢ 0 → Refused n ≡ answered n
-answer-refused zero h = absurd (h refl)
-answer-refused (suc n) h = refl
+pub refusal-told : (n : ℕ) → n ≢ 0 → toldRefusal n ≡ toldNumber n
+refusal-told zero h = absurd (h refl)
+refusal-told (suc n) h = refl
 
-pub answer-done : (n : ℕ) → n ≡ 0 → Done ≡ answered n
-answer-done n e = sym (ap answered e)
+pub done-told : (n : ℕ) → n ≡ 0 → toldDone ≡ toldNumber n
+done-told n e = sym (ap toldNumber e)
+
+-- The answer with this name and number ..
+named : Name → ℕ → Answer
+named refusal n = Refused n
+named done n = Done
+named caught n = Done
+named none-leads n = Done
+named way n = Done
+
+-- .. is the one that tells them.
+named-told : (a : Answer) → a ≡ named (toldBy a .name) (toldBy a .number)
+unfolding named
+named-told Done = refl
+named-told (Refused n) = refl
+
+-- Two answers told alike are one ..
+pub told-alike : (a b : Answer) → toldBy a ≡ toldBy b → a ≡ b
+told-alike a b e = named-told a ∙ ap (λ x. named (x .name) (x .number)) e ∙ sym (named-told b)
+
+-- .. so an answer told by its number is the number's.
+answered-told : (n : ℕ) → toldNumber n ≡ toldBy (answered n)
+answered-told zero = refl
+answered-told (suc n) = refl
+
+pub answer-is : (a : Answer) (n : ℕ) → toldBy a ≡ toldNumber n → a ≡ answered n
+answer-is a n e = told-alike a (answered n) (e ∙ answered-told n)
 
 -- ---- one number
 

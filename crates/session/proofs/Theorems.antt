@@ -27,9 +27,16 @@ use Rattle.session.specs.declared.Answer.the-variants.{Done}
 use Rattle.session.specs.declared.Reply.{Reply}
 use Rattle.session.specs.Refusals.{answered}
 use Rattle.session.specs.Promises.{hunterAt, targetAt, Places, Opens, Names, Alike}
-use Rattle.session.proofs.RefusalLaws.{place-number, open-number, place-granted, open-granted, place-passes, open-passes}
+use Rattle.session.proofs.RefusalLaws.{answer-is, place-number, open-number, place-granted, open-granted, place-passes, open-passes}
 
 -- ---- answers and replies
+
+-- The answer as the code returns it.
+pub place-answer : {s placed : Session} {cell : ℕ} {r : Reply} (P : Places s placed cell r) → r .answer ≡ answered (P .number)
+place-answer {r = r} P = answer-is (r .answer) (P .number) (P .answer)
+
+pub open-answer : {width height hunter target : ℕ} {t t′ : Tables} {r : Reply} (P : Opens width height hunter target t r t′) → r .answer ≡ answered (P .number)
+open-answer {r = r} P = answer-is (r .answer) (P .number) (P .answer)
 
 pub done-zero : (n : ℕ) → answered n ≡ Done → n ≡ 0
 done-zero zero e = refl
@@ -45,15 +52,15 @@ same-reply {r} {r′} e f = ap (λ x. reply x (r .answer)) e ∙ ap (λ x. reply
 -- ---- a call that no rule refuses is done
 
 pub place-done : {s placed : Session} {cell : ℕ} {r : Reply} → Places s placed cell r → Size (s .width) (s .height) → cell < cells s → (r .answer ≡ Done) × (r .session ≡ placed)
-place-done {s} P z l = let e = place-passes s (P .rules) z l in (P .answer ∙ ap answered e, P .done e)
+place-done {s} P z l = let e = place-passes s (P .rules) z l in (place-answer P ∙ ap answered e, P .done e)
 
 pub open-done : {width height hunter target : ℕ} {t t′ : Tables} {r : Reply} → Opens width height hunter target t r t′ → Openable width height hunter target t → r .answer ≡ Done
-open-done P o = P .answer ∙ ap answered (open-passes (P .rules) o)
+open-done P o = open-answer P ∙ ap answered (open-passes (P .rules) o)
 
 -- ---- two results of one placing
 
 pub one-placing : {s placed : Session} {cell : ℕ} {r r′ : Reply} → Places s placed cell r → Places s placed cell r′ → r ≡ r′
-one-placing {s} {placed} {cell} {r} {r′} P Q = same-reply (at (ℕ-discrete (P .number) 0)) (P .answer ∙ ap answered e ∙ sym (Q .answer))
+one-placing {s} {placed} {cell} {r} {r′} P Q = same-reply (at (ℕ-discrete (P .number) 0)) (place-answer P ∙ ap answered e ∙ sym (place-answer Q))
   where
     e : P .number ≡ Q .number
     e = place-number s (P .rules) (Q .rules)
@@ -129,7 +136,7 @@ same-tables {t} {t′} ep ec el em =
     at e f g h i j k l = rw (e, f, g, h, i, j, k, l) refl
 
 pub one-opening : {width height hunter target : ℕ} {t a a′ : Tables} {r r′ : Reply} → Opens width height hunter target t r a → Opens width height hunter target t r′ a′ → (r ≡ r′) × (a ≡ a′)
-one-opening {a = a} {a′ = a′} {r = r} {r′ = r′} P Q = let x = at (ℕ-discrete (P .number) 0) in (same-reply (x .0) (P .answer ∙ ap answered e ∙ sym (Q .answer)), x .1)
+one-opening {a = a} {a′ = a′} {r = r} {r′ = r′} P Q = let x = at (ℕ-discrete (P .number) 0) in (same-reply (x .0) (open-answer P ∙ ap answered e ∙ sym (open-answer Q)), x .1)
   where
     e : P .number ≡ Q .number
     e = open-number (P .rules) (Q .rules)
@@ -169,7 +176,7 @@ alike {width} {room} a a′ p c h h′ =
 -- An open that is done leaves sound tables.
 pub opened-sound : {width height hunter target : ℕ} {t t′ : Tables} {r : Reply} → Opens width height hunter target t r t′ → r .answer ≡ Done → Sound (r .session) t′
 opened-sound {width} {height} {hunter} {target} {t} {t′} {r} P e =
-    let z = done-zero (P .number) (sym (P .answer) ∙ e) in
+    let z = done-zero (P .number) (sym (open-answer P) ∙ e) in
     let p = P .done z in
     subst (λ x. Sound x t′) (sym (p .0)) (at (open-granted (P .rules) z) (p .1))
   where

@@ -5,9 +5,10 @@ use Prim.Native.Nat.{ℕ, _≤_, _<_}
 use lib.ListN.{getD}
 use Rattle.tables.specs.declared.Session.{Session}
 use Rattle.tables.specs.Lent.{Tables, core}
+use Rattle.tables.specs.Told.{toldNumber}
 use Rattle.entries.specs.Begin.{begun, Opened}
 use Rattle.session.specs.declared.Reply.{Reply}
-use Rattle.session.specs.Refusals.{answered, PlaceRules, OpenRules}
+use Rattle.session.specs.Refusals.{toldBy, PlaceRules, OpenRules}
 
 -- ---- the record
 
@@ -28,7 +29,7 @@ nothing = record { width = 0; height = 0; hunter = 0; target = 0; origin = 0; go
 pub record Places (s placed : Session) (cell : ℕ) (r : Reply) : Type 0 where
   pub number : ℕ
   pub rules : PlaceRules s cell number
-  pub answer : r .answer ≡ answered number
+  pub answer : toldBy (r .answer) ≡ toldNumber number
   pub refused : number ≢ 0 → r .session ≡ s
   pub done : number ≡ 0 → r .session ≡ placed
 
@@ -38,7 +39,7 @@ pub record Places (s placed : Session) (cell : ℕ) (r : Reply) : Type 0 where
 pub record Opens (width height hunter target : ℕ) (t : Tables) (r : Reply) (t′ : Tables) : Type 0 where
   pub number : ℕ
   pub rules : OpenRules width height hunter target t number
-  pub answer : r .answer ≡ answered number
+  pub answer : toldBy (r .answer) ≡ toldNumber number
   pub refused : number ≢ 0 → (r .session ≡ nothing) × (t′ ≡ t)
   pub done : number ≡ 0 → (r .session ≡ begun width height hunter target) × Opened width height hunter target t t′
 

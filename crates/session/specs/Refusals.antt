@@ -5,6 +5,7 @@ use Rattle.plan.specs.Costs.{planOf, Bytes, Edges}
 use Rattle.tables.specs.declared.Session.{Session}
 use Rattle.tables.specs.Lent.{Tables, cells, Fits}
 use Rattle.tables.specs.Sound.{Sound}
+use Rattle.tables.specs.Told.{Told, toldDone, toldRefusal}
 use Rattle.session.specs.declared.Answer.{Answer}
 use Rattle.session.specs.declared.Answer.the-variants.{Done, Refused}
 
@@ -17,7 +18,12 @@ pub data Ruled (P : Type 0) (number : ℕ) (rest : ℕ → Type 0) : ℕ → Typ
 pub data Passed : ℕ → Type 0 where
   passed : Passed 0
 
--- The answer of each number: 0 is no refusal, every other is a refusal that "carries its number only".
+-- What an answer tells.
+abbrev pub toldBy : Answer → Told
+toldBy Done = toldDone
+toldBy (Refused n) = toldRefusal n
+
+-- The answer of each number, as the code returns it: 0 is no refusal.
 abbrev pub answered : ℕ → Answer
 answered zero = Done
 answered (suc k) = Refused (suc k)

@@ -1,4 +1,6 @@
--- The session record and the lent tables (Lent), what makes them sound (Sound), and the rules that the check walks over, with the first place at fault (Rules).
+-- The session record and the lent tables (Lent), what makes them sound (Sound), the rules that the check walks over, with the first place at fault (Rules),
+-- and what the answer of a call tells (Told).
 pub mod Lent
 pub mod Sound
 pub mod Rules
+pub mod Told

@@ -1,6 +1,7 @@
 use native.Mathlib.Omega.{arith}
 use borrow.Author.Tests.{not-true, not-false}
-use Rattle.answer.specs.Answer.{cut-off, none-there, way-shown}
+use Rattle.answer.specs.Answer.{cut-off, none-there}
+use Rattle.answer.proofs.AnswerLaws.{way-told}
 use borrow.Author.Needs.{needs}
 use Rattle.answer.proofs.answered.Statement.{statement}
 use Rattle.answer.proofs.answered.Tie as tie
@@ -33,7 +34,9 @@ same-length : tie.Need-same-length
 same-length c = search needs
 
 returns-3 : tie.Need-returns-3
-returns-3 c = way-shown (not-false _ (c .before .before .before .before .before .before .before .if1 .left)) (c .before .before .before .before .before .if2 .left) (c .before .before .write-way .ensures)
+returns-3 c =
+    let finite = c .before .before .before .before .before .if2 .left in
+    way-told (c .before .before .before .before .before .before .before .before .before .before .before .pre .led finite) (not-false _ (c .before .before .before .before .before .before .before .if1 .left)) finite (c .before .before .write-way .ensures)
 
 pub answered-spec : {M : Type 1} → statement M
 answered-spec =

@@ -1,5 +1,5 @@
 use mathlib.Core.Path.{refl}
-use Rattle.session.proofs.RefusalLaws.{answer-refused, answer-done, open-granted}
+use Rattle.session.proofs.RefusalLaws.{refusal-told, done-told, open-granted}
 use borrow.Author.Needs.{needs}
 use Rattle.session.proofs.open.Statement.{statement}
 use Rattle.session.proofs.open.Tie as tie
@@ -29,7 +29,7 @@ same-length-7 : tie.Need-same-length-7
 same-length-7 c = search needs
 
 returns : tie.Need-returns
-returns c = record { number = c .before .open-refusal .result; rules = c .before .open-refusal .ensures; answer = answer-refused _ (c .if1 .taken); refused = λ _. (refl, refl); done = λ z. absurd (c .if1 .taken z) }
+returns c = record { number = c .before .open-refusal .result; rules = c .before .open-refusal .ensures; answer = refusal-told _ (c .if1 .taken); refused = λ _. (refl, refl); done = λ z. absurd (c .if1 .taken z) }
 
 begin-requires : tie.Need-begin-requires
 begin-requires c κs = open-granted (c .before .before .before .before .before .before .before .before .open-refusal .ensures) (c .before .before .before .before .before .before .before .if1 .left)
@@ -59,7 +59,7 @@ returns-2 : tie.Need-returns-2
 returns-2 c =
     let r = c .before .before .before .before .before .before .before .before .before .before .before .before .before .before .before .before .before .before .before .before .before .before .before .open-refusal in
     let z = c .before .before .before .before .before .before .before .before .before .before .before .before .before .before .before .before .before .before .before .before .before .before .if1 .left in
-    record { number = r .result; rules = r .ensures; answer = answer-done _ z; refused = λ n. absurd (n z); done = λ _. c .before .before .before .before .before .before .before .before .before .before .before .before .before .before .begin .ensures }
+    record { number = r .result; rules = r .ensures; answer = done-told _ z; refused = λ n. absurd (n z); done = λ _. c .before .before .before .before .before .before .before .before .before .before .before .before .before .before .begin .ensures }
 
 pub open-spec : {M : Type 1} → statement M
 open-spec =
