@@ -20,20 +20,25 @@ use Rattle.session.specs.declared.Answer.the-variants.{Done}
 use Rattle.session.specs.declared.Reply.{Reply}
 use Rattle.session.specs.Refusals.{answered}
 use Rattle.session.specs.Promises.{Alike}
+use Rattle.session.proofs.RefusalLaws.{answer-is}
 use Rattle.session.proofs.Theorems.{done-zero, same-reply, alike, alike-same}
 use Rattle.change.specs.Refusals.{Workable}
 use Rattle.change.specs.Promise.{counted, withPlan, replanned, enteredCell, backCode, oldCost, WorkedIn, Changes}
 use Rattle.change.proofs.RefusalLaws.{change-number, change-granted, change-passes}
 
+-- The answer as the code returns it.
+pub change-answer : {s : Session} {t t′ : Tables} {u d cost : ℕ} {r : Reply} (P : Changes s t u d cost r t′) → r .answer ≡ answered (P .number)
+change-answer {r = r} P = answer-is (r .answer) (P .number) (P .answer)
+
 -- ---- a change that no rule refuses is done
 
 pub change-done : {s : Session} {t t′ : Tables} {u d cost : ℕ} {r : Reply} → Changes s t u d cost r t′ → Fits (cells s) t → Workable s t u d cost → r .answer ≡ Done
-change-done P f w = P .answer ∙ ap answered (change-passes (P .rules) f w)
+change-done P f w = change-answer P ∙ ap answered (change-passes (P .rules) f w)
 
 -- ---- two results of one change: equal but for the order inside the heap
 
 pub one-change : {s : Session} {t a a′ : Tables} {u d cost : ℕ} {r r′ : Reply} → Changes s t u d cost r a → Changes s t u d cost r′ a′ → (r ≡ r′) × Alike (r .session .count) a a′
-one-change {s} {a = a} {a′ = a′} {r = r} {r′ = r′} P Q = let x = at (ℕ-discrete (P .number) 0) in (same-reply (x .0) (P .answer ∙ ap answered e ∙ sym (Q .answer)), x .1)
+one-change {s} {a = a} {a′ = a′} {r = r} {r′ = r′} P Q = let x = at (ℕ-discrete (P .number) 0) in (same-reply (x .0) (change-answer P ∙ ap answered e ∙ sym (change-answer Q)), x .1)
   where
     e : P .number ≡ Q .number
     e = change-number (P .rules) (Q .rules)
@@ -57,7 +62,7 @@ module _ {s : Session} {t t′ : Tables} {u d cost : ℕ} {r : Reply} (P : Chang
   pub change-byte-alone : r .answer ≡ Done → (Touches (s .origin) (t .g) (t .rhs) (t .parent) (enteredCell s u d) (backCode d) u (oldCost s t u d) cost → ⊥)
       → (r .session ≡ s) × (t′ ≡ withPlan t (replanned s t u d cost))
   change-byte-alone e n =
-      let p = P .done (done-zero (P .number) (sym (P .answer) ∙ e)) in
+      let p = P .done (done-zero (P .number) (sym (change-answer P) ∙ e)) in
       let q = p .1 .untouched n in
       (p .0 ∙ ap (counted s) (q .0), q .1)
 
@@ -83,7 +88,7 @@ module _ {s : Session} {t t′ : Tables} {u d cost : ℕ} {r : Reply} (P : Chang
     where
       at : Dec (P .number ≡ 0) → (r .session ≡ s) × (t′ ≡ t)
       at (yes z) =
-          let q = change-byte-alone (P .answer ∙ ap answered z)
+          let q = change-byte-alone (change-answer P ∙ ap answered z)
           (λ x. ⊎-elim (λ (h : (cost < oldCost s t u d) × (getD (t .g) u 0 + cost < getD (t .rhs) (enteredCell s u d) 0)). omega (arith, h .0, e))
           (λ (h : (oldCost s t u d < cost) × (getD (t .parent) (enteredCell s u d) 0 ≡ backCode d)). omega (arith, h .0, e)) (x .1)) in
           (q .0, q .1 ∙ ap (withPlan t) (ap (set (t .plan) (4 * u + d)) e ∙ set-getD (t .plan) (4 * u + d) 0))
@@ -94,7 +99,7 @@ module _ {s : Session} {t t′ : Tables} {u d cost : ℕ} {r : Reply} (P : Chang
 -- A change that is done leaves sound tables.
 pub changed-sound : {s : Session} {t t′ : Tables} {u d cost : ℕ} {r : Reply} → Changes s t u d cost r t′ → r .answer ≡ Done → Sound (r .session) t′
 changed-sound {s} {t} {t′} {u} {d} {cost} {r} P e =
-    let z = done-zero (P .number) (sym (P .answer) ∙ e) in
+    let z = done-zero (P .number) (sym (change-answer P) ∙ e) in
     let p = P .done z in
     subst (λ x. Sound x t′) (sym (p .0)) (at (change-granted (P .rules) z) (p .1))
   where
@@ -116,5 +121,5 @@ pub change-keeps-sound : {s : Session} {t t′ : Tables} {u d cost : ℕ} {r : R
 change-keeps-sound {s} {t} {t′} {r = r} S P = at (ℕ-discrete (P .number) 0)
   where
     at : Dec (P .number ≡ 0) → Sound (r .session) t′
-    at (yes z) = changed-sound P (P .answer ∙ ap answered z)
+    at (yes z) = changed-sound P (change-answer P ∙ ap answered z)
     at (no n) = let p = P .refused n in subst (λ x. Sound x t′) (sym (p .0)) (subst (Sound s) (sym (p .1)) S)

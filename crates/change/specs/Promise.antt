@@ -11,9 +11,10 @@ use Rattle.plan.specs.Cells.{entered}
 use Rattle.plan.specs.Costs.{byte, withByte}
 use Rattle.tables.specs.declared.Session.{Session}
 use Rattle.tables.specs.Lent.{Tables, tables, cells, floor, graph, session, core}
+use Rattle.tables.specs.Told.{toldNumber}
 use Rattle.choices.specs.Effects.{Touches}
 use Rattle.session.specs.declared.Reply.{Reply}
-use Rattle.session.specs.Refusals.{answered}
+use Rattle.session.specs.Refusals.{toldBy}
 use Rattle.change.specs.Refusals.{ChangeRules}
 
 -- The record with another count of the queue.
@@ -56,6 +57,6 @@ pub record WorkedIn (s : Session) (t : Tables) (u d cost count : ℕ) (t′ : Ta
 pub record Changes (s : Session) (t : Tables) (u d cost : ℕ) (r : Reply) (t′ : Tables) : Type 0 where
   pub number : ℕ
   pub rules : ChangeRules s t u d cost number
-  pub answer : r .answer ≡ answered number
+  pub answer : toldBy (r .answer) ≡ toldNumber number
   pub refused : number ≢ 0 → (r .session ≡ s) × (t′ ≡ t)
   pub done : number ≡ 0 → (r .session ≡ counted s (r .session .count)) × WorkedIn s t u d cost (r .session .count) t′

@@ -1,6 +1,6 @@
 use native.Mathlib.Omega.{arith}
 use mathlib.Core.Path.{refl}
-use Rattle.session.proofs.RefusalLaws.{answer-refused, table-number, tables-granted}
+use Rattle.session.proofs.RefusalLaws.{refusal-told, table-number, tables-granted}
 use borrow.Author.Needs.{needs}
 use Rattle.change.proofs.change_move.Statement.{statement}
 use Rattle.change.proofs.change_move.Tie as tie
@@ -34,7 +34,7 @@ same-length-7 : tie.Need-same-length-7
 same-length-7 c = search needs
 
 returns : tie.Need-returns
-returns c = record { number = c .before .table-refusal .result; rules = table-number (c .before .table-refusal .ensures) (λ z. omega (arith, z, c .if1 .taken)); answer = answer-refused _ (λ z. omega (arith, z, c .if1 .taken)); refused = λ _. (refl, refl); done = λ z. absurd (omega (arith, z, c .if1 .taken)) }
+returns c = record { number = c .before .table-refusal .result; rules = table-number (c .before .table-refusal .ensures) (λ z. omega (arith, z, c .if1 .taken)); answer = refusal-told _ (λ z. omega (arith, z, c .if1 .taken)); refused = λ _. (refl, refl); done = λ z. absurd (omega (arith, z, c .if1 .taken)) }
 
 change-sound-requires : tie.Need-change-sound-requires
 change-sound-requires c κs = tables-granted (c .before .before .before .before .before .before .before .before .table-refusal .ensures) (omega (arith, c .before .before .before .before .before .before .before .if1 .left))

@@ -1,5 +1,5 @@
 use mathlib.Core.Path.{refl}
-use Rattle.session.proofs.RefusalLaws.{answer-refused, answer-done, sound-rules}
+use Rattle.session.proofs.RefusalLaws.{refusal-told, done-told, sound-rules}
 use Rattle.change.proofs.RefusalLaws.{change-granted}
 use borrow.Author.Needs.{needs}
 use Rattle.change.proofs.change_sound.Statement.{statement}
@@ -13,7 +13,7 @@ move-refusal-requires : tie.Need-move-refusal-requires
 move-refusal-requires c κs = c .before .before .before .before .before .before .before .before .pre .plan .size
 
 returns : tie.Need-returns
-returns c = record { number = c .before .move-refusal .result; rules = sound-rules (c .before .before .before .before .before .before .before .before .before .before .pre) (c .before .move-refusal .ensures); answer = answer-refused _ (c .if1 .taken); refused = λ _. (refl, refl); done = λ z. absurd (c .if1 .taken z) }
+returns c = record { number = c .before .move-refusal .result; rules = sound-rules (c .before .before .before .before .before .before .before .before .before .before .pre) (c .before .move-refusal .ensures); answer = refusal-told _ (c .if1 .taken); refused = λ _. (refl, refl); done = λ z. absurd (c .if1 .taken z) }
 
 work-in-requires : tie.Need-work-in-requires
 work-in-requires c κs = change-granted (sound-rules (c .before .before .before .before .before .before .before .before .before .before .before .before .before .before .before .before .before .pre) (c .before .before .before .before .before .before .before .before .move-refusal .ensures)) (c .before .before .before .before .before .before .before .if1 .left)
@@ -40,7 +40,7 @@ same-length-7 : tie.Need-same-length-7
 same-length-7 c = search needs
 
 returns-2 : tie.Need-returns-2
-returns-2 c = record { number = c .before .before .before .before .before .before .before .before .before .before .before .before .before .before .before .before .before .before .before .before .before .before .before .move-refusal .result; rules = sound-rules (c .before .before .before .before .before .before .before .before .before .before .before .before .before .before .before .before .before .before .before .before .before .before .before .before .before .before .before .before .before .before .before .before .pre) (c .before .before .before .before .before .before .before .before .before .before .before .before .before .before .before .before .before .before .before .before .before .before .before .move-refusal .ensures); answer = answer-done _ (c .before .before .before .before .before .before .before .before .before .before .before .before .before .before .before .before .before .before .before .before .before .before .if1 .left); refused = λ n. absurd (n (c .before .before .before .before .before .before .before .before .before .before .before .before .before .before .before .before .before .before .before .before .before .before .if1 .left)); done = λ _. (refl, c .before .before .before .before .before .before .before .before .before .before .before .before .before .before .work-in .ensures) }
+returns-2 c = record { number = c .before .before .before .before .before .before .before .before .before .before .before .before .before .before .before .before .before .before .before .before .before .before .before .move-refusal .result; rules = sound-rules (c .before .before .before .before .before .before .before .before .before .before .before .before .before .before .before .before .before .before .before .before .before .before .before .before .before .before .before .before .before .before .before .before .pre) (c .before .before .before .before .before .before .before .before .before .before .before .before .before .before .before .before .before .before .before .before .before .before .before .move-refusal .ensures); answer = done-told _ (c .before .before .before .before .before .before .before .before .before .before .before .before .before .before .before .before .before .before .before .before .before .before .if1 .left); refused = λ n. absurd (n (c .before .before .before .before .before .before .before .before .before .before .before .before .before .before .before .before .before .before .before .before .before .before .if1 .left)); done = λ _. (refl, c .before .before .before .before .before .before .before .before .before .before .before .before .before .before .work-in .ensures) }
 
 pub change-sound-spec : {M : Type 1} → statement M
 change-sound-spec =
