@@ -24,17 +24,24 @@ use Rattle.plan.proofs.MoveLaws.{area}
 use Rattle.tables.specs.declared.Session.{Session}
 use Rattle.tables.specs.Lent.{Tables, tables, cells, floor, graph, session, core}
 use Rattle.tables.specs.Sound.{Sound}
+use Rattle.tables.specs.Told.{Told, toldWay}
 use Rattle.entries.specs.declared.Aim.{Aim}
 use Rattle.entries.specs.Aims as aims
 use Rattle.entries.specs.Aims.{AimOf, Aimed, Held}
 use Rattle.steps.specs.Loop.{Started, Finished}
 use Rattle.take_over.specs.TakeOver.{Holds, Takes}
 use Rattle.answer.specs.Way.{Leads}
-use Rattle.answer.proofs.WayLaws.{trail-leads}
+use Rattle.answer.proofs.WayLaws.{trail-leads, leads-unique}
+use Rattle.answer.proofs.AnswerLaws.{answer-is}
 use Rattle.answer.specs.declared.Answer.{Answer}
-use Rattle.answer.specs.declared.Answer.the-variants.{Caught, Way}
-use Rattle.answer.specs.Answer.{answerOf, cellsOf, Answering, Answers, cut-off, none-there, way-shown}
+use Rattle.answer.specs.declared.Answer.the-variants.{Caught}
+use Rattle.answer.specs.Answer.{toldBy, tells, answerOf, cellsOf, Answering, Answers, cut-off, none-there, way-shown}
+use Rattle.search.specs.declared.Outcome.{Outcome}
 use Rattle.search.specs.Promise.{outcome, written, Searched}
+
+-- The answer as the code returns it.
+pub searched-answer : {s : Session} {t t′ : Tables} {way way′ : List ℕ} {r : Outcome} → Searched s t way r t′ way′ → r .answer ≡ answerOf (outcome s t .answer)
+searched-answer {s} {t} {way′ = way′} {r = r} D = answer-is (r .answer) way′ (outcome s t .answer) (D .answer)
 
 -- ---- a catch
 
@@ -50,7 +57,7 @@ module _ {s : Session} {t : Tables} (S : Sound s t) (e : s .hunter ≡ s .target
 
   pub searched-caught : {way way′ : List ℕ} → cells s ≤ length way → way′ ≡ set way 0 (s .hunter) → Searched s t way (record { session = s; answer = Caught (s .hunter) }) t way′
   searched-caught {way} long ew = record {
-    answer = sym (ap (λ o. answerOf (o .answer)) caught-is);
+    answer = sym (ap (λ o. tells (o .answer)) caught-is);
     wide = refl;
     high = refl;
     record-is = sym (ap (λ o. o .session) caught-is);
@@ -218,7 +225,7 @@ module _ {s : Session} {t : Tables} (S : Sound s t) where
             next : (k : ℕ) → k + 1 ≡ suc k
             next k = omega arith
 
-        by-answer : {way way′ : List ℕ} {x : Answer} → x ≡ answerOf (outcome s t .answer) → way′ ≡ written (cellsOf (outcome s t .answer)) way
+        by-answer : {way way′ : List ℕ} {x : Answer} → toldBy x way′ ≡ tells (outcome s t .answer) → way′ ≡ written (cellsOf (outcome s t .answer)) way
             → Searched s t way (record { session = leftBy r n (r .searches + 1); answer = x }) t₂ way′
         by-answer ea ew = record {
           answer = ea;
@@ -240,15 +247,17 @@ module _ {s : Session} {t : Tables} (S : Sound s t) where
               (f .0 ∙ k .0, ap (λ (x : Tables). x .place) (f .1) ∙ k .1, ap (λ (x : Tables). x .list) (f .1) ∙ k .2);
         }
 
-        pub searched : {way way′ : List ℕ} {x : Answer} → Answers a over steps rhs₂ parent₂ way x way′
+        -- what is told after the last step is what the method tells
+        told-is : {x : Told} {way way′ : List ℕ} → Answers b over steps rhs₂ parent₂ way x way′ → (x ≡ tells (outcome s t .answer)) × (way′ ≡ written (cellsOf (outcome s t .answer)) way)
+        told-is (cut-off e) = let z : true ≡ false = sym over-is ∙ e in absurd (true≢false z)
+        told-is {way = way} (none-there _ i) = (sym (ap tells (answer-none i)), sym (ap (λ y. written (cellsOf y) way) (answer-none i)))
+        told-is {way = way} (way-shown {l} _ f k) =
+            let q = led f in
+            let e = leads-unique k (leads (q .1)) in (
+              ap (λ m. toldWay (getD rhs₂ (b .target) 0 - getD rhs₂ (b .hunter) 0) steps (length m) m) e ∙ sym (ap tells (answer-way f)),
+              ap (λ m. written m way) e ∙ sym (ap (λ y. written (cellsOf y) way) (answer-way f)),
+            )
+
+        pub searched : {way way′ : List ℕ} {x : Answer} → Answers a over steps rhs₂ parent₂ way (toldBy x way′) way′
             → Searched s t way (record { session = leftBy r n (r .searches + 1); answer = x }) (tables (t .plan) g₂ rhs₂ parent₂ k1₂ k2₂ place₂ list₂) way′
-        searched {way} {way′} {x} A = at (subst (λ y. Answers y over steps rhs₂ parent₂ way x way′) aim-is A)
-          where
-            at : {x : Answer} {way′ : List ℕ} → Answers b over steps rhs₂ parent₂ way x way′ → Searched s t way (record { session = leftBy r n (r .searches + 1); answer = x }) t₂ way′
-            at (cut-off e) = let z : true ≡ false = sym over-is ∙ e in absurd (true≢false z)
-            at (none-there _ i) = by-answer (sym (ap answerOf (answer-none i))) (sym (ap (λ y. written (cellsOf y) way) (answer-none i)))
-            at (way-shown {k} _ f w) =
-                let q = led f in
-                let v = w (q .0) (leads (q .1)) in
-                by-answer (ap (λ m. Way (getD rhs₂ (b .target) 0 - getD rhs₂ (b .hunter) 0) steps m) (v .0) ∙ sym (ap answerOf (answer-way f)))
-                (v .1 ∙ sym (ap (λ y. written (cellsOf y) way) (answer-way f)))
+        searched {way} {way′} {x} A = let q = told-is (subst (λ y. Answers y over steps rhs₂ parent₂ way (toldBy x way′) way′) aim-is A) in by-answer (q .0) (q .1)

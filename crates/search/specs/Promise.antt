@@ -9,9 +9,9 @@ use Rattle.method.specs.Session as method
 use Rattle.queue.specs.Queue.{Heap, EntryKept}
 use Rattle.tables.specs.declared.Session.{Session}
 use Rattle.tables.specs.Lent.{Tables, cells, graph, session, core}
+use Rattle.tables.specs.Told.{toldRefusal}
 use Rattle.session.specs.Refusals.{Ruled, Passed, TableRules}
-use Rattle.answer.specs.declared.Answer.the-variants.{Refused}
-use Rattle.answer.specs.Answer.{answerOf, cellsOf}
+use Rattle.answer.specs.Answer.{toldBy, tells, cellsOf}
 use Rattle.search.specs.declared.Outcome.{Outcome}
 
 -- The tables of the session; "way list shorter than N".
@@ -26,10 +26,10 @@ outcome s t = method.search (graph s t) (session s) (core t)
 abbrev pub written : List ℕ → List ℕ → List ℕ
 written shown way = shown ++ drop (length shown) way
 
--- A search not refused: answer, record and tables are the method's, with a true heap; the plan and the size are as they were. A catch changes no table. Nor does a search
+-- A search not refused: what it tells, record and tables are the method's, with a true heap; the plan and the size are as they were. A catch changes no table. Nor does a search
 -- of no steps where the hunter stays and nothing starts fresh: list and places stay too. "Lent memory that no rule tells a call to write keeps its contents."
 pub record Searched (s : Session) (t : Tables) (way : List ℕ) (r : Outcome) (t′ : Tables) (way′ : List ℕ) : Type 0 where
-  pub answer : r .answer ≡ answerOf (outcome s t .answer)
+  pub answer : toldBy (r .answer) way′ ≡ tells (outcome s t .answer)
   pub wide : r .session .width ≡ s .width
   pub high : r .session .height ≡ s .height
   pub record-is : session (r .session) ≡ outcome s t .session
@@ -47,5 +47,5 @@ pub record Searched (s : Session) (t : Tables) (way : List ℕ) (r : Outcome) (t
 pub record Searches (s : Session) (t : Tables) (way : List ℕ) (r : Outcome) (t′ : Tables) (way′ : List ℕ) : Type 0 where
   pub number : ℕ
   pub rules : SearchRules s t way number
-  pub refused : number ≢ 0 → (r .answer ≡ Refused number) × (r .session ≡ s) × (t′ ≡ t) × (way′ ≡ way)
+  pub refused : number ≢ 0 → (toldBy (r .answer) way′ ≡ toldRefusal number) × (r .session ≡ s) × (t′ ≡ t) × (way′ ≡ way)
   pub done : number ≡ 0 → Searched s t way r t′ way′
