@@ -21,30 +21,29 @@ use Rattle.plan.proofs.GridLaws.{graph-laws}
 use Rattle.tables.specs.declared.Session.{Session}
 use Rattle.tables.specs.Lent.{Tables, cells, floor, graph, session, core}
 use Rattle.tables.specs.Sound.{Sound}
+use Rattle.tables.specs.Told.{none-leads as none, refusal, Told, toldRefusal, toldNone, toldWay, toldNumber}
 use Rattle.tables.proofs.SoundLaws.{sound-fits}
-use Rattle.session.specs.declared.Answer.{Answer as CallAnswer}
-use Rattle.session.specs.declared.Answer.the-variants.{Done, Refused as RefusedCall}
-use Rattle.session.specs.Refusals.{answered}
 use Rattle.session.specs.Promises.{Alike}
-use Rattle.session.proofs.RefusalLaws.{answer-refused, place-number, open-number}
-use Rattle.session.proofs.Theorems.{done-zero, alike, alike-same}
+use Rattle.session.proofs.RefusalLaws.{refusal-told, place-number, open-number}
+use Rattle.session.proofs.Theorems.{alike, alike-same}
 use Rattle.change.proofs.RefusalLaws.{change-number}
 use Rattle.answer.specs.declared.Answer.{Answer}
-use Rattle.answer.specs.declared.Answer.the-variants.{NoWay, Way, Refused}
+use Rattle.answer.specs.Answer.{toldBy, tells, answerOf, cellsOf}
+use Rattle.answer.proofs.AnswerLaws.{told-alike}
 use Rattle.search.specs.declared.Outcome.{Outcome}
-use Rattle.answer.specs.Answer.{toldBy, answerOf, cellsOf}
 use Rattle.search.specs.Promise.{SearchRules, outcome, written, Searched, Searches}
 use Rattle.demands.specs.Demands.{RefusesByNumber, Exactly, RefusesExactly, stepsOf, RightlyAnswered, caught, none-leads, way-shown, TakesTheSteps, FewSteps}
 use Rattle.search.proofs.RefusalLaws.{search-number, search-granted, search-passes}
+use Rattle.search.proofs.SearchLaws.{searched-answer}
 
 -- ---- 1
 
 pub demand-1 : RefusesByNumber
 demand-1 = record {
-  place = λ {s} P R n. let e = place-number s (P .rules) R in (P .answer ∙ ap answered e ∙ sym (answer-refused _ n), P .refused (λ z. n (sym e ∙ z)));
-  opening = λ P R n. let e = open-number (P .rules) R in let q = P .refused (λ z. n (sym e ∙ z)) in (P .answer ∙ ap answered e ∙ sym (answer-refused _ n), q .0, q .1);
-  change = λ P R n. let e = change-number (P .rules) R in let q = P .refused (λ z. n (sym e ∙ z)) in (P .answer ∙ ap answered e ∙ sym (answer-refused _ n), q .0, q .1);
-  search = λ way P R n. let e = search-number way (P .rules) R in let q = P .refused (λ z. n (sym e ∙ z)) in (q .0 ∙ ap Refused e, q .1, q .2, q .3);
+  place = λ {s} P R n. let e = place-number s (P .rules) R in (P .answer ∙ ap toldNumber e ∙ sym (refusal-told _ n), P .refused (λ z. n (sym e ∙ z)));
+  opening = λ P R n. let e = open-number (P .rules) R in let q = P .refused (λ z. n (sym e ∙ z)) in (P .answer ∙ ap toldNumber e ∙ sym (refusal-told _ n), q .0, q .1);
+  change = λ P R n. let e = change-number (P .rules) R in let q = P .refused (λ z. n (sym e ∙ z)) in (P .answer ∙ ap toldNumber e ∙ sym (refusal-told _ n), q .0, q .1);
+  search = λ way P R n. let e = search-number way (P .rules) R in let q = P .refused (λ z. n (sym e ∙ z)) in (q .0 ∙ ap toldRefusal e, q .1, q .2, q .3);
 }
 
 -- ---- 2 and 3: a search of sound tables, with room for the way, is not refused
@@ -57,32 +56,34 @@ module _ {s : Session} {t : Tables} (S : Sound s t) where
   laws = graph-laws (floor s (t .plan)) (S .plan .size)
 
   -- the answer that the method gives is right
-  right : (way : List ℕ) → RightlyAnswered s t way (answerOf (outcome s t .answer)) (written (cellsOf (outcome s t .answer)) way)
+  right : (way : List ℕ) → RightlyAnswered s t way (tells (outcome s t .answer)) (written (cellsOf (outcome s t .answer)) way)
   right way = at (ℕ-discrete (s .hunter) (s .target))
     where
       from : {steps : ℕ} {a : calls.Answer} → s .hunter ≢ s .target → steps ≡ length (stepsOf s t) → RightAnswer (graph s t) (s .hunter) (s .target) steps a
-          → RightlyAnswered s t way (answerOf a) (written (cellsOf a) way)
-      from n e (none-there f) = subst (λ k. RightlyAnswered s t way (NoWay k) way) (sym e) (none-leads n f)
-      from n e (way-there {cost} {cells = shown} c l) = subst (λ k. RightlyAnswered s t way (Way cost k (length shown)) (written shown way)) (sym e) (way-shown n c l)
+          → RightlyAnswered s t way (tells a) (written (cellsOf a) way)
+      from n e (none-there f) = subst (λ k. RightlyAnswered s t way (toldNone k) way) (sym e) (none-leads n f)
+      from n e (way-there {cost} {cells = shown} c l) = subst (λ k. RightlyAnswered s t way (toldWay cost k (length shown) shown) (written shown way)) (sym e) (way-shown n c l)
 
-      at : Dec (s .hunter ≡ s .target) → RightlyAnswered s t way (answerOf (outcome s t .answer)) (written (cellsOf (outcome s t .answer)) way)
+      at : Dec (s .hunter ≡ s .target) → RightlyAnswered s t way (tells (outcome s t .answer)) (written (cellsOf (outcome s t .answer)) way)
       at (yes e) =
-          subst (λ o. RightlyAnswered s t way (answerOf (o .answer)) (written (cellsOf (o .answer)) way)) (sym (method.caught-unchanged laws (S .numbers) e)) (caught e)
+          subst (λ o. RightlyAnswered s t way (tells (o .answer)) (written (cellsOf (o .answer)) way)) (sym (method.caught-unchanged laws (S .numbers) e)) (caught e)
       at (no n) = from n refl (method.right-answer laws (S .numbers) n)
 
   -- the steps that the answer tells
-  told : (a : calls.Answer) → toldBy (answerOf a) .steps ≡ calls.stepsShown a
-  told (calls.caught x) = refl
-  told (calls.none-leads n) = refl
-  told (calls.way c n l) = refl
-  told calls.cut-off = refl
+  told : (a : calls.Answer) (list : List ℕ) → toldBy (answerOf a) list .steps ≡ calls.stepsShown a
+  told (calls.caught x) list = refl
+  told (calls.none-leads n) list = refl
+  told (calls.way c n l) list = refl
+  told calls.cut-off list = refl
 
   module _ (way : List ℕ) {way′ : List ℕ} {t′ : Tables} {r : Outcome} (room : cells s ≤ length way) (P : Searches s t way r t′ way′) where
     done : Searched s t way r t′ way′
     done = not-refused way S room P
 
-    answered-right : RightlyAnswered s t way (r .answer) way′
-    answered-right = subst (λ w. RightlyAnswered s t way (r .answer) w) (sym (done .shown)) (subst (λ a. RightlyAnswered s t way a (written (cellsOf (outcome s t .answer)) way)) (sym (done .answer)) (right way))
+    answered-right : RightlyAnswered s t way (toldBy (r .answer) way′) way′
+    answered-right =
+        subst (λ w. RightlyAnswered s t way (toldBy (r .answer) way′) w) (sym (done .shown))
+        (subst (λ x. RightlyAnswered s t way x (written (cellsOf (outcome s t .answer)) way)) (sym (done .answer)) (right way))
 
     pub demand-2 : TakesTheSteps s t way r t′ way′
     demand-2 = record {
@@ -91,16 +92,16 @@ module _ {s : Session} {t : Tables} (S : Sound s t) where
       none-exactly = λ n. at n answered-right;
     }
       where
-        at : {a : Answer} {w : List ℕ} → s .hunter ≢ s .target → RightlyAnswered s t way a w → (a ≡ NoWay (length (stepsOf s t))) ↔ NoChain (graph s t) (s .hunter) (s .target)
+        at : {x : Told} {w : List ℕ} → s .hunter ≢ s .target → RightlyAnswered s t way x w → (x .name ≡ none) ↔ NoChain (graph s t) (s .hunter) (s .target)
         at n (caught e) = absurd (n e)
         at n (none-leads _ f) = (λ _. f, λ _. refl)
-        at n (way-shown _ c l) = (λ e. let z : _≡_ {A = ℕ} 0 1 = cc in absurd (omega arith), λ f. absurd (f _ _ (c .leads)))
+        at n (way-shown _ c l) = (λ e. differ cc, λ f. absurd (f _ _ (c .leads)))
 
     pub demand-3 : FewSteps s t r t′
     demand-3 = record {
       at-most-3N = method.at-most-3N laws (S .numbers);
       no-step-twice = method.no-step-twice laws (S .numbers);
-      reported = ap (λ a. toldBy a .steps) (done .answer) ∙ told (outcome s t .answer) ∙ method.steps-shown laws (S .numbers);
+      reported = λ list. ap (λ a. toldBy a list .steps) (searched-answer done) ∙ told (outcome s t .answer) list ∙ method.steps-shown laws (S .numbers);
       sound-again = sound;
     }
       where
@@ -124,50 +125,54 @@ module _ {s : Session} {t : Tables} (S : Sound s t) where
 
 -- ---- 1, both ways
 
--- An answer that is a refusal tells its number, which is not 0.
-refused-number : (n k : ℕ) → answered n ≡ RefusedCall k → (n ≢ 0) × (n ≡ k)
-refused-number zero k e = differ cc
-refused-number (suc n) k e = (λ z. omega arith, cc)
+-- A refusal told is that of a number which is not 0; where none is told, the number is 0.
+refused-number : (n k : ℕ) → toldNumber n ≡ toldRefusal k → (n ≢ 0) × (n ≡ k)
+refused-number zero k e = let q = ap (λ (x : Told). x .name) e in differ cc
+refused-number (suc n) k e = (λ z. omega arith, ap (λ (x : Told). x .number) e)
 
--- Where a call's answer is that of the number, it is refused exactly by the first rule broken.
-exactly : {a : CallAnswer} {Rules : ℕ → Type 0} {n : ℕ} → ((k : ℕ) → Rules k → n ≡ k) → Rules n → a ≡ answered n → Exactly Rules (λ k. a ≡ RefusedCall k) (a ≡ Done)
-exactly {a} {Rules} {n} one R e = record {
+no-refusal : (n : ℕ) → toldNumber n .name ≢ refusal → n ≡ 0
+no-refusal zero f = refl
+no-refusal (suc n) f = absurd (f refl)
+
+-- Where a call tells the number, it is refused exactly by the first rule broken.
+exactly : {x : Told} {Rules : ℕ → Type 0} {n : ℕ} → ((k : ℕ) → Rules k → n ≡ k) → Rules n → x ≡ toldNumber n → Exactly Rules x
+exactly {x} {Rules} {n} one R e = record {
   refused = λ k. (
-    λ q. let x = refused-number n k (sym e ∙ q) in (λ z. x .0 (x .1 ∙ z), subst Rules (x .1) R),
-    λ x. e ∙ ap answered (one k (x .1)) ∙ sym (answer-refused k (x .0)),
+    λ q. let z = refused-number n k (sym e ∙ q) in (λ zero-k. z .0 (z .1 ∙ zero-k), subst Rules (z .1) R),
+    λ q. e ∙ ap toldNumber (one k (q .1)) ∙ sym (refusal-told k (q .0)),
   );
-  done = (λ q. subst Rules (done-zero n (sym e ∙ q)) R, λ x. e ∙ ap answered (one 0 x));
+  done = (
+    λ f. subst Rules (no-refusal n (subst (λ (y : Told). y .name ≢ refusal) e f)) R,
+    λ q f. let g = sym (ap (λ (y : Told). y .name) (e ∙ ap toldNumber (one 0 q))) ∙ f in differ cc,
+  );
 }
 
--- A search that is not refused answers; one that is, answers with the number.
+-- A search that is not refused tells no refusal; one that is, tells the number.
 module _ {s : Session} {t t′ : Tables} (way : List ℕ) {way′ : List ℕ} {r : Outcome} (P : Searches s t way r t′ way′) where
-  answers : P .number ≡ 0 → (k : ℕ) → r .answer ≢ Refused k
-  answers z k e = at (let g = search-granted way (P .rules) z in answered-right (g .0) way (g .1) P) e
+  answers : P .number ≡ 0 → toldBy (r .answer) way′ .name ≢ refusal
+  answers z e = at (let g = search-granted way (P .rules) z in answered-right (g .0) way (g .1) P) e
     where
-      at : {a : Answer} {w : List ℕ} → RightlyAnswered s t way a w → a ≡ Refused k → ⊥
+      at : {x : Told} {w : List ℕ} → RightlyAnswered s t way x w → x .name ≡ refusal → ⊥
       at (caught _) q = differ cc
       at (none-leads _ _) q = differ cc
       at (way-shown _ _ _) q = differ cc
 
-  search-exactly : Exactly (SearchRules s t way) (λ k. r .answer ≡ Refused k) ((k : ℕ) → r .answer ≢ Refused k)
+  search-exactly : Exactly (SearchRules s t way) (toldBy (r .answer) way′)
   search-exactly = record {
-    refused = λ k. (λ q. from k q (ℕ-discrete (P .number) 0), λ x. P .refused (λ z. x .0 (sym (one k (x .1)) ∙ z)) .0 ∙ ap Refused (one k (x .1)));
+    refused = λ k. (λ q. from k q (ℕ-discrete (P .number) 0), λ x. P .refused (λ z. x .0 (sym (one k (x .1)) ∙ z)) .0 ∙ ap toldRefusal (one k (x .1)));
     done = (λ f. to f (ℕ-discrete (P .number) 0), λ x. answers (one 0 x));
   }
     where
       one : (k : ℕ) → SearchRules s t way k → P .number ≡ k
       one k = search-number way (P .rules)
 
-      same : {n k : ℕ} → Refused n ≡ Refused k → n ≡ k
-      same e = cc
+      from : (k : ℕ) → toldBy (r .answer) way′ ≡ toldRefusal k → Dec (P .number ≡ 0) → (k ≢ 0) × SearchRules s t way k
+      from k q (yes z) = absurd (answers z (ap (λ (x : Told). x .name) q))
+      from k q (no n) = let e = ap (λ (x : Told). x .number) (sym (P .refused n .0) ∙ q) in (λ z. n (e ∙ z), subst (SearchRules s t way) e (P .rules))
 
-      from : (k : ℕ) → r .answer ≡ Refused k → Dec (P .number ≡ 0) → (k ≢ 0) × SearchRules s t way k
-      from k q (yes z) = absurd (answers z k q)
-      from k q (no n) = let e = same (sym (P .refused n .0) ∙ q) in (λ z. n (e ∙ z), subst (SearchRules s t way) e (P .rules))
-
-      to : ((k : ℕ) → r .answer ≢ Refused k) → Dec (P .number ≡ 0) → SearchRules s t way 0
+      to : toldBy (r .answer) way′ .name ≢ refusal → Dec (P .number ≡ 0) → SearchRules s t way 0
       to f (yes z) = subst (SearchRules s t way) z (P .rules)
-      to f (no n) = absurd (f (P .number) (P .refused n .0))
+      to f (no n) = absurd (f (ap (λ (x : Told). x .name) (P .refused n .0)))
 
 pub demand-1-exactly : RefusesExactly
 demand-1-exactly = record {
@@ -217,8 +222,9 @@ one-search {s} {t} {a} {a′} way {w} {w′} {r} {r′} P Q = at (ℕ-discrete (
         let q = Q .done (sym e ∙ z) in
         let c : core a ≡ core a′ = p .tables-are ∙ sym (q .tables-are) in
         let x = alike a a′ (p .plan ∙ sym (q .plan)) c (p .heap) (q .heap) in
-        (same-outcome (same-record (p .wide ∙ sym (q .wide)) (p .high ∙ sym (q .high)) (p .record-is ∙ sym (q .record-is)) (x .0)) (p .answer ∙ sym (q .answer)), x .1, p .shown ∙ sym (q .shown))
+        let left = same-record (p .wide ∙ sym (q .wide)) (p .high ∙ sym (q .high)) (p .record-is ∙ sym (q .record-is)) (x .0) in
+        (same-outcome left (told-alike (r .answer) (r′ .answer) w w′ (p .answer ∙ sym (q .answer))), x .1, p .shown ∙ sym (q .shown))
     at (no n) =
         let p = P .refused n in
         let q = Q .refused (λ z. n (e ∙ z)) in
-        (same-outcome (p .1 ∙ sym (q .1)) (p .0 ∙ ap Refused e ∙ sym (q .0)), alike-same (p .2 ∙ sym (q .2)), p .3 ∙ sym (q .3))
+        (same-outcome (p .1 ∙ sym (q .1)) (told-alike (r .answer) (r′ .answer) w w′ (p .0 ∙ ap toldRefusal e ∙ sym (q .0))), alike-same (p .2 ∙ sym (q .2)), p .3 ∙ sym (q .3))

@@ -21,7 +21,7 @@ use Rattle.session.specs.declared.Answer.the-variants.{Done}
 use Rattle.session.specs.declared.Reply.{Reply}
 use Rattle.session.specs.Refusals.{answered}
 use Rattle.session.specs.Promises.{Opens}
-use Rattle.session.proofs.Theorems.{opened-sound, hunter-placed-sound, target-placed-sound}
+use Rattle.session.proofs.Theorems.{open-answer, opened-sound, hunter-placed-sound, target-placed-sound}
 use Rattle.change.proofs.Theorems.{change-keeps-sound}
 use Rattle.search.specs.declared.Outcome.{Outcome}
 use Rattle.search.specs.Promise.{Searches}
@@ -42,7 +42,7 @@ search-keeps-sound {s} {t} {t′} {way} {way′} {r} S P = at (ℕ-discrete (P .
 
 -- An open that is refused keeps the tables.
 open-keeps : {width height hunter target : ℕ} {t t′ : Tables} {r : Reply} → Opens width height hunter target t r t′ → r .answer ≢ Done → t′ ≡ t
-open-keeps P n = P .refused (λ z. n (P .answer ∙ ap answered z)) .1
+open-keeps P n = P .refused (λ z. n (open-answer P ∙ ap answered z)) .1
 
 -- So does every call ..
 pub call-keeps-sound : {s s′ : Session} {t t′ : Tables} → Sound s t → Call s t s′ t′ → Sound s′ t′

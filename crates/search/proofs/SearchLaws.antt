@@ -26,7 +26,6 @@ use Rattle.tables.specs.Lent.{Tables, tables, cells, floor, graph, session, cor
 use Rattle.tables.specs.Sound.{Sound}
 use Rattle.tables.specs.Told.{Told, toldWay}
 use Rattle.entries.specs.declared.Aim.{Aim}
-use Rattle.entries.specs.Aims as aims
 use Rattle.entries.specs.Aims.{AimOf, Aimed, Held}
 use Rattle.steps.specs.Loop.{Started, Finished}
 use Rattle.take_over.specs.TakeOver.{Holds, Takes}
