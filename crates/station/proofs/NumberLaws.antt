@@ -1,40 +1,42 @@
 -- The numbers of each case of an answer, and the byte of a cost.
 use mathlib.Core.Path.{_≡_, sym, ap, subst, _∙_}
 use mathlib.Core.Bool.{Bool, cond}
+use mathlib.Core.List.{List}
 use Prim.Native.Nat.{ℕ, _≤_, _<_}
 use borrow.Author.Tests.{lt-ltb, le-ltb}
 use Rattle.tables.specs.declared.Session.{Session}
 use Rattle.tables.specs.Lent.{Tables}
+use Rattle.tables.specs.Told.{toldRefusal}
 use Rattle.session.specs.declared.Answer.{Answer as CallAnswer}
-use Rattle.session.specs.declared.Answer.the-variants.{Done, Refused as RefusedCall}
+use Rattle.session.specs.declared.Answer.the-variants.{Refused as RefusedCall}
 use Rattle.session.specs.declared.Reply.{Reply as CallReply}
+use Rattle.session.specs.Refusals.{toldBy as toldByCall}
 use Rattle.change.specs.Promise.{Changes}
 use Rattle.answer.specs.declared.Answer.{Answer as SearchAnswer}
-use Rattle.answer.specs.declared.Answer.the-variants.{Caught, NoWay, Way, Refused}
+use Rattle.answer.specs.declared.Answer.the-variants.{Way, Refused}
+use Rattle.answer.specs.Answer.{toldBy}
 use Rattle.station.specs.declared.Reply.{Reply}
-use Rattle.station.specs.Told.{reply, callNumbers, searchNumbers, byteOf}
+use Rattle.station.specs.Told.{replyOf, byteOf}
 
 -- ---- open, place and change
 
-pub done-told : (s : Session) {a : CallAnswer} → a ≡ Done → reply s 0 0 0 0 0 ≡ callNumbers s a
-done-told s e = sym (ap (callNumbers s) e)
+-- The reply to an answer known by its name.
+pub call-told : (s : Session) {a b : CallAnswer} → a ≡ b → replyOf s (toldByCall b) ≡ replyOf s (toldByCall a)
+call-told s e = ap (λ (x : CallAnswer). replyOf s (toldByCall x)) (sym e)
 
-pub refused-told : (s : Session) {a : CallAnswer} {n : ℕ} {r : Reply} → a ≡ RefusedCall n → r ≡ reply s 4 n 0 0 0 → r ≡ callNumbers s a
-refused-told s e f = f ∙ sym (ap (callNumbers s) e)
+pub call-refused-told : (s : Session) {a : CallAnswer} {n : ℕ} {r : Reply} → a ≡ RefusedCall n → r ≡ replyOf s (toldRefusal n) → r ≡ replyOf s (toldByCall a)
+call-refused-told s e f = f ∙ call-told s e
 
 -- ---- search
 
-pub caught-told : (s : Session) {a : SearchAnswer} {cell : ℕ} → a ≡ Caught cell → reply s 3 0 0 0 1 ≡ searchNumbers s a
-caught-told s e = sym (ap (searchNumbers s) e)
+pub search-told : (s : Session) {a b : SearchAnswer} → a ≡ b → (list : List ℕ) → replyOf s (toldBy b list) ≡ replyOf s (toldBy a list)
+search-told s e list = ap (λ (x : SearchAnswer). replyOf s (toldBy x list)) (sym e)
 
-pub none-told : (s : Session) {a : SearchAnswer} {n : ℕ} → a ≡ NoWay n → reply s 2 0 0 n 0 ≡ searchNumbers s a
-none-told s e = sym (ap (searchNumbers s) e)
+pub way-told : (s : Session) {a : SearchAnswer} {cost c n k : ℕ} → a ≡ Way c n k → cost ≡ c → (list : List ℕ) → replyOf s (toldBy (Way cost n k) list) ≡ replyOf s (toldBy a list)
+way-told s {n = n} {k = k} e f list = ap (λ (x : ℕ). replyOf s (toldBy (Way x n k) list)) f ∙ search-told s e list
 
-pub way-told : (s : Session) {a : SearchAnswer} {cost c n k : ℕ} → a ≡ Way c n k → cost ≡ c → reply s 1 0 cost n k ≡ searchNumbers s a
-way-told s {n = n} {k = k} e f = ap (λ (x : ℕ). reply s 1 0 x n k) f ∙ sym (ap (searchNumbers s) e)
-
-pub search-refused-told : (s : Session) {a : SearchAnswer} {n : ℕ} {r : Reply} → a ≡ Refused n → r ≡ reply s 4 n 0 0 0 → r ≡ searchNumbers s a
-search-refused-told s e f = f ∙ sym (ap (searchNumbers s) e)
+pub search-refused-told : (s : Session) {a : SearchAnswer} {n : ℕ} {r : Reply} → a ≡ Refused n → r ≡ replyOf s (toldRefusal n) → (list : List ℕ) → r ≡ replyOf s (toldBy a list)
+search-refused-told s e f list = f ∙ search-told s e list
 
 -- ---- a cost
 

@@ -1,7 +1,7 @@
 -- What the C functions' statements settle: faulty input is refused by number, exactly, and changes nothing; a search of sound tables answers rightly in few steps;
 -- two results that one statement allows are equal, the order inside the heap apart.
 use mathlib.Core.Path.{_≡_, refl, sym, ap, subst, _∙_}
-use mathlib.Core.Logic.{_≢_, _↔_}
+use mathlib.Core.Logic.{_⊎_, inl, inr, _≢_, _↔_}
 use mathlib.Core.List.{List}
 use Prim.Native.Nat.{ℕ, _≤_}
 use native.Mathlib.Omega.{arith}
@@ -12,10 +12,11 @@ use Rattle.method.proofs.Choices.{differ}
 use Rattle.tables.specs.declared.Session.{Session}
 use Rattle.tables.specs.Lent.{Tables, cells, graph}
 use Rattle.tables.specs.Sound.{Sound}
+use Rattle.tables.specs.Told.{none-leads as none, refusal, Told, toldRefusal}
 use Rattle.session.specs.declared.Answer.{Answer as CallAnswer}
 use Rattle.session.specs.declared.Answer.the-variants.{Done, Refused}
 use Rattle.session.specs.declared.Reply.{Reply as CallReply}
-use Rattle.session.specs.Refusals.{PlaceRules, OpenRules}
+use Rattle.session.specs.Refusals.{toldBy as toldByCall, PlaceRules, OpenRules}
 use Rattle.session.specs.Promises.{nothing, Places, Opens, Alike}
 use Rattle.session.proofs.RefusalLaws.{passed-one, ruled-one}
 use Rattle.session.proofs.Theorems.{one-placing, one-opening}
@@ -27,114 +28,91 @@ use Rattle.answer.specs.declared.Answer.the-variants.{Caught, NoWay, Way, Refus
 use Rattle.answer.specs.Answer.{toldBy}
 use Rattle.search.specs.declared.Outcome.{Outcome}
 use Rattle.search.specs.Promise.{SearchRules, Searches}
-use Rattle.demands.specs.Demands as demands
-use Rattle.demands.specs.Demands.{Exactly, RightlyAnswered, TakesTheSteps, FewSteps, stepsOf}
+use Rattle.demands.specs.Demands.{Exactly, stepsOf, RightlyAnswered, caught, none-leads, way-shown, TakesTheSteps, FewSteps}
 use Rattle.demands.proofs.Demands.{demand-1, demand-1-exactly, demand-2, demand-3, one-search}
 use Rattle.station.specs.declared.Reply.{Reply}
 use Rattle.station.specs.declared.Lengths.{Lengths}
-use Rattle.station.specs.Told.{reply, callNumbers, searchNumbers, CallTold, SearchTold, Measures}
-use Rattle.station.specs.Demanded.{ToldExactly, RightlyTold, caught, none-leads, way-shown, TakesTheStepsTold, FewStepsTold}
+use Rattle.station.specs.Told.{kindOf, replyOf, CallTold, SearchTold, Measures}
+use Rattle.station.specs.Demanded.{ToldExactly, RightlyTold, TakesTheStepsTold, FewStepsTold}
 
 -- ---- what is told of a reply
 
-same-told : {r r′ : Reply} {x x′ : CallReply} → r ≡ callNumbers (x .session) (x .answer) → r′ ≡ callNumbers (x′ .session) (x′ .answer) → x ≡ x′ → r ≡ r′
-same-told a b e = a ∙ ap (λ (y : CallReply). callNumbers (y .session) (y .answer)) e ∙ sym b
-
-record-told : (s : Session) (a : CallAnswer) → callNumbers s a .session ≡ s
-record-told s Done = refl
-record-told s (Refused n) = refl
-
-count-told : {r : Reply} (x : CallReply) → r ≡ callNumbers (x .session) (x .answer) → x .session .count ≡ r .session .count
-count-told x e = sym (ap (λ (y : Reply). y .session .count) e ∙ ap (λ (y : Session). y .count) (record-told (x .session) (x .answer)))
+same-told : {r r′ : Reply} {x x′ : CallReply} → r ≡ replyOf (x .session) (toldByCall (x .answer)) → r′ ≡ replyOf (x′ .session) (toldByCall (x′ .answer)) → x ≡ x′ → r ≡ r′
+same-told a b e = a ∙ ap (λ (y : CallReply). replyOf (y .session) (toldByCall (y .answer))) e ∙ sym b
 
 -- ---- refusals: where k is the number of the first rule broken, the reply is k's and carries nothing else
 
-refusal-told : {r : Reply} (x : CallReply) {s : Session} {k : ℕ} → r ≡ callNumbers (x .session) (x .answer) → x .answer ≡ Refused k → x .session ≡ s → r ≡ reply s 4 k 0 0 0
-refusal-told x {k = k} e a b = e ∙ ap (callNumbers (x .session)) a ∙ ap (λ (y : Session). callNumbers y (Refused k)) b
+refusal-told : {r : Reply} {s s′ : Session} {x : Told} (k : ℕ) → r ≡ replyOf s x → x ≡ toldRefusal k → s ≡ s′ → r ≡ replyOf s′ (toldRefusal k)
+refusal-told {s = s} k e a b = e ∙ ap (λ (y : Told). replyOf s y) a ∙ ap (λ (y : Session). replyOf y (toldRefusal k)) b
 
-pub placing-refused : {s placed : Session} {cell k : ℕ} {r : Reply} → CallTold (Places s placed cell) r → PlaceRules s cell k → k ≢ 0 → r ≡ reply s 4 k 0 0 0
-placing-refused P rules n =
+pub placing-refused : {s placed : Session} {cell k : ℕ} {r : Reply} → CallTold (Places s placed cell) r → PlaceRules s cell k → k ≢ 0 → r ≡ replyOf s (toldRefusal k)
+placing-refused {k = k} P rules n =
     let d = demand-1 .place (P .promised) rules n in
-    refusal-told (P .called) (P .told) (d .0) (d .1)
+    refusal-told k (P .told) (d .0) (d .1)
 
 pub opening-refused : {width height hunter target k : ℕ} {t t′ : Tables} {r : Reply} → CallTold (λ x. Opens width height hunter target t x t′) r → OpenRules width height hunter target t k → k ≢ 0
-    → (r ≡ reply nothing 4 k 0 0 0) × (t′ ≡ t)
-opening-refused P rules n =
+    → (r ≡ replyOf nothing (toldRefusal k)) × (t′ ≡ t)
+opening-refused {k = k} P rules n =
     let d = demand-1 .opening (P .promised) rules n in
-    (refusal-told (P .called) (P .told) (d .0) (d .1), d .2)
+    (refusal-told k (P .told) (d .0) (d .1), d .2)
 
 pub change-refused : {s : Session} {t t′ : Tables} {u d cost k : ℕ} {r : Reply} → CallTold (λ x. Changes s t u d cost x t′) r → ChangeRules s t u d cost k → k ≢ 0
-    → (r ≡ reply s 4 k 0 0 0) × (t′ ≡ t)
-change-refused P rules n =
+    → (r ≡ replyOf s (toldRefusal k)) × (t′ ≡ t)
+change-refused {k = k} P rules n =
     let d = demand-1 .change (P .promised) rules n in
-    (refusal-told (P .called) (P .told) (d .0) (d .1), d .2)
+    (refusal-told k (P .told) (d .0) (d .1), d .2)
 
 pub search-refused : {s : Session} {t t′ : Tables} (way : List ℕ) {way′ : List ℕ} {k : ℕ} {r : Reply} → SearchTold (λ x. Searches s t way x t′ way′) r → SearchRules s t way k → k ≢ 0
-    → (r ≡ reply s 4 k 0 0 0) × (t′ ≡ t) × (way′ ≡ way)
-search-refused way {k = k} P rules n =
+    → (r ≡ replyOf s (toldRefusal k)) × (t′ ≡ t) × (way′ ≡ way)
+search-refused way {way′} {k} P rules n =
     let d = demand-1 .search way (P .promised) rules n in
-    (P .told ∙ ap (searchNumbers (P .called .session)) (d .0) ∙ ap (λ (y : Session). searchNumbers y (RefusedSearch k)) (d .1), d .2, d .3)
+    (refusal-told k (P .told way′) (d .0) (d .1), d .2, d .3)
 
 -- ---- refusals, both ways: the number told is k exactly if k is the number of the first rule broken
 
--- what two answers in numbers have to do with each other
-done-not : {k : ℕ} → Done ≡ Refused k → ⊥
-done-not e = differ cc
+-- What is told is no refusal and has number 0, or is the refusal of its number.
+abbrev Numbered : Told → Type 0
+Numbered x = ((x .name ≢ refusal) × (x .number ≡ 0)) ⊎ (x ≡ toldRefusal (x .number))
 
-same-refusal : {n k : ℕ} → Refused n ≡ Refused k → n ≡ k
-same-refusal e = cc
+call-number : (a : CallAnswer) → Numbered (toldByCall a)
+call-number Done = inl (λ e. differ cc, refl)
+call-number (Refused n) = inr refl
 
-same-search-refusal : {n k : ℕ} → RefusedSearch n ≡ RefusedSearch k → n ≡ k
-same-search-refusal e = cc
+search-number : (a : Answer) (list : List ℕ) → Numbered (toldBy a list)
+search-number (Caught x) list = inl (λ e. differ cc, refl)
+search-number (NoWay n) list = inl (λ e. differ cc, refl)
+search-number (Way c n k) list = inl (λ e. differ cc, refl)
+search-number (RefusedSearch n) list = inr refl
 
-call-exactly : {Rules : ℕ → Type 0} (s : Session) (a : CallAnswer) → Exactly Rules (λ k. a ≡ Refused k) (a ≡ Done) → (k : ℕ) → (callNumbers s a .refusal ≡ k) ↔ Rules k
-call-exactly {Rules} s Done E k = (λ e. subst Rules e (E .done .0 refl), λ x. at x (ℕ-discrete k 0))
+told-exactly : {Rules : ℕ → Type 0} {r : Reply} (s : Session) (x : Told) → r ≡ replyOf s x → Exactly Rules x → Numbered x → ToldExactly Rules r
+told-exactly {Rules} s x e E p k = subst (λ (y : Reply). (y .refusal ≡ k) ↔ Rules k) (sym e) (by p)
   where
-    at : Rules k → Dec (k ≡ 0) → 0 ≡ k
-    at x (yes z) = sym z
-    at x (no n) = absurd (done-not (E .refused k .1 (n, x)))
-call-exactly {Rules} s (Refused n) E k = (λ e. subst Rules e (E .refused n .0 refl .1), λ x. at x (ℕ-discrete k 0))
-  where
-    at : Rules k → Dec (k ≡ 0) → n ≡ k
-    at x (yes z) = absurd (done-not (sym (E .done .1 (subst Rules z x))))
-    at x (no m) = same-refusal (E .refused k .1 (m, x))
-
-search-exactly : {Rules : ℕ → Type 0} (s : Session) (a : Answer) → Exactly Rules (λ k. a ≡ RefusedSearch k) ((k : ℕ) → a ≢ RefusedSearch k) → (k : ℕ) → (searchNumbers s a .refusal ≡ k) ↔ Rules k
-search-exactly {Rules} s a E k = by a refl
-  where
-    -- an answer that is no refusal
-    answers : ((n : ℕ) → a ≢ RefusedSearch n) → (0 ≡ k) ↔ Rules k
-    answers f = (λ e. subst Rules e (E .done .0 f), λ x. at x (ℕ-discrete k 0))
+    by : Numbered x → (x .number ≡ k) ↔ Rules k
+    by (inl (f, z)) = (λ q. subst Rules (sym z ∙ q) (E .done .0 f), λ R. at R (ℕ-discrete k 0))
       where
-        at : Rules k → Dec (k ≡ 0) → 0 ≡ k
-        at x (yes z) = sym z
-        at x (no n) = absurd (f k (E .refused k .1 (n, x)))
-
-    by : (b : Answer) → a ≡ b → (searchNumbers s b .refusal ≡ k) ↔ Rules k
-    by (Caught x) e = answers (λ n q. let z = sym e ∙ q in differ cc)
-    by (NoWay m) e = answers (λ n q. let z = sym e ∙ q in differ cc)
-    by (Way c m l) e = answers (λ n q. let z = sym e ∙ q in differ cc)
-    by (RefusedSearch n) e = (λ q. subst Rules q (E .refused n .0 e .1), λ x. at x (ℕ-discrete k 0))
+        at : Rules k → Dec (k ≡ 0) → x .number ≡ k
+        at R (yes q) = z ∙ sym q
+        at R (no n) = absurd (f (ap (λ (y : Told). y .name) (E .refused k .1 (n, R))))
+    by (inr q) = (λ h. subst Rules h (E .refused (x .number) .0 q .1), λ R. at R (ℕ-discrete k 0))
       where
-        at : Rules k → Dec (k ≡ 0) → n ≡ k
-        at x (yes z) = absurd (E .done .1 (subst Rules z x) n e)
-        at x (no m) = same-search-refusal (sym e ∙ E .refused k .1 (m, x))
+        at : Rules k → Dec (k ≡ 0) → x .number ≡ k
+        at R (yes z) = absurd (E .done .1 (subst Rules z R) (ap (λ (y : Told). y .name) q))
+        at R (no n) = ap (λ (y : Told). y .number) (E .refused k .1 (n, R))
 
-told-exactly : {Rules : ℕ → Type 0} {r : Reply} (x : CallReply) → r ≡ callNumbers (x .session) (x .answer) → Exactly Rules (λ k. x .answer ≡ Refused k) (x .answer ≡ Done) → ToldExactly Rules r
-told-exactly {Rules} x e E k = subst (λ (y : Reply). (y .refusal ≡ k) ↔ Rules k) (sym e) (call-exactly (x .session) (x .answer) E k)
+call-exactly : {Rules : ℕ → Type 0} {r : Reply} (x : CallReply) → r ≡ replyOf (x .session) (toldByCall (x .answer)) → Exactly Rules (toldByCall (x .answer)) → ToldExactly Rules r
+call-exactly x e E = told-exactly (x .session) (toldByCall (x .answer)) e E (call-number (x .answer))
 
 pub placing-exactly : {s placed : Session} {cell : ℕ} {r : Reply} → CallTold (Places s placed cell) r → ToldExactly (PlaceRules s cell) r
-placing-exactly P = told-exactly (P .called) (P .told) (demand-1-exactly .place (P .promised))
+placing-exactly P = call-exactly (P .called) (P .told) (demand-1-exactly .place (P .promised))
 
 pub opening-exactly : {width height hunter target : ℕ} {t t′ : Tables} {r : Reply} → CallTold (λ x. Opens width height hunter target t x t′) r → ToldExactly (OpenRules width height hunter target t) r
-opening-exactly P = told-exactly (P .called) (P .told) (demand-1-exactly .opening (P .promised))
+opening-exactly P = call-exactly (P .called) (P .told) (demand-1-exactly .opening (P .promised))
 
 pub change-exactly : {s : Session} {t t′ : Tables} {u d cost : ℕ} {r : Reply} → CallTold (λ x. Changes s t u d cost x t′) r → ToldExactly (ChangeRules s t u d cost) r
-change-exactly P = told-exactly (P .called) (P .told) (demand-1-exactly .change (P .promised))
+change-exactly P = call-exactly (P .called) (P .told) (demand-1-exactly .change (P .promised))
 
 pub search-told-exactly : {s : Session} {t t′ : Tables} (way : List ℕ) {way′ : List ℕ} {r : Reply} → SearchTold (λ x. Searches s t way x t′ way′) r → ToldExactly (SearchRules s t way) r
-search-told-exactly {s} {t} way P k =
-    subst (λ (y : Reply). (y .refusal ≡ k) ↔ SearchRules s t way k) (sym (P .told)) (search-exactly (P .called .session) (P .called .answer) (demand-1-exactly .search way (P .promised)) k)
+search-told-exactly way {way′} P = told-exactly (P .called .session) (toldBy (P .called .answer) way′) (P .told way′) (demand-1-exactly .search way (P .promised)) (search-number (P .called .answer) way′)
 
 -- ---- demands 2 and 3: a search of sound tables, with room for the way
 
@@ -145,29 +123,30 @@ module _ {s : Session} {t t′ : Tables} (S : Sound s t) (way : List ℕ) {way�
   few : FewSteps s t (P .called) t′
   few = demand-3 S way room (P .promised)
 
-  rightly : (left : Session) {a : Answer} {w : List ℕ} → RightlyAnswered s t way a w → RightlyTold s t way left (searchNumbers left a) w
-  rightly left (demands.caught e) = caught e
-  rightly left (demands.none-leads n f) = none-leads n f
-  rightly left (demands.way-shown n c l) = way-shown n c l
-
   left-is : r .session ≡ P .called .session
-  left-is = ap (λ (y : Reply). y .session) (P .told)
+  left-is = ap (λ (y : Reply). y .session) (P .told way′)
 
-  answer-told : RightlyTold s t way (r .session) r way′
-  answer-told =
-      subst (λ (y : Session). RightlyTold s t way y r way′) (sym left-is)
-      (subst (λ (y : Reply). RightlyTold s t way (P .called .session) y way′) (sym (P .told)) (rightly (P .called .session) (takes .answer)))
+  answer-told : RightlyTold s t way r way′
+  answer-told = record {
+    told = toldBy (P .called .answer) way′;
+    right = takes .answer;
+    reply = P .told way′ ∙ ap (λ (y : Session). replyOf y (toldBy (P .called .answer) way′)) (sym left-is);
+  }
 
   pub search-right-told : TakesTheStepsTold s t way r t′ way′
-  search-right-told = record { steps = takes .steps; answer = answer-told; none-exactly = λ n. at n answer-told }
+  search-right-told = record {
+    steps = takes .steps;
+    answer = answer-told;
+    none-exactly = λ n. subst (λ (y : Reply). (y .kind ≡ kindOf none) ↔ NoChain (graph s t) (s .hunter) (s .target)) (sym (P .told way′)) (at n (takes .answer));
+  }
     where
-      at : {y : Reply} {w : List ℕ} → s .hunter ≢ s .target → RightlyTold s t way (r .session) y w → (y .kind ≡ 2) ↔ NoChain (graph s t) (s .hunter) (s .target)
+      at : {x : Told} {w : List ℕ} → s .hunter ≢ s .target → RightlyAnswered s t way x w → (kindOf (x .name) ≡ kindOf none) ↔ NoChain (graph s t) (s .hunter) (s .target)
       at n (caught e) = absurd (n e)
       at n (none-leads _ f) = (λ _. f, λ _. refl)
       at n (way-shown _ c l) = (λ e. absurd (omega (arith, e)), λ f. absurd (f _ _ (c .leads)))
 
   steps-told : r .steps ≡ length (stepsOf s t)
-  steps-told = ap (λ (y : Reply). y .steps) (P .told) ∙ few .reported
+  steps-told = ap (λ (y : Reply). y .steps) (P .told way′) ∙ few .reported way′
 
   pub few-steps-told : FewStepsTold s t r t′
   few-steps-told = record {
@@ -192,14 +171,14 @@ pub one-change-told : {s : Session} {t a a′ : Tables} {u d cost : ℕ} {r r′
     → (r ≡ r′) × Alike (r .session .count) a a′
 one-change-told {a = a} {a′ = a′} P Q =
     let one = one-change (P .promised) (Q .promised) in
-    (same-told (P .told) (Q .told) (one .0), subst (λ (n : ℕ). Alike n a a′) (count-told (P .called) (P .told)) (one .1))
+    (same-told (P .told) (Q .told) (one .0), subst (λ (n : ℕ). Alike n a a′) (sym (ap (λ (y : Reply). y .session .count) (P .told))) (one .1))
 
 pub one-search-told : {s : Session} {t a a′ : Tables} (way : List ℕ) {w w′ : List ℕ} {r r′ : Reply} → SearchTold (λ x. Searches s t way x a w) r → SearchTold (λ x. Searches s t way x a′ w′) r′
     → (r ≡ r′) × Alike (r .session .count) a a′ × (w ≡ w′)
 one-search-told {a = a} {a′ = a′} way P Q =
     let one = one-search way (P .promised) (Q .promised) in
-    let counted = sym (ap (λ (y : Reply). y .session .count) (P .told)) in
-    (P .told ∙ ap (λ (y : Outcome). searchNumbers (y .session) (y .answer)) (one .0) ∙ sym (Q .told), subst (λ (n : ℕ). Alike n a a′) counted (one .1), one .2)
+    let counted = sym (ap (λ (y : Reply). y .session .count) (P .told way)) in
+    (P .told way ∙ ap (λ (y : Outcome). replyOf (y .session) (toldBy (y .answer) way)) (one .0) ∙ sym (Q .told way), subst (λ (n : ℕ). Alike n a a′) counted (one .1), one .2)
 
 -- The lengths that a size gives.
 pub one-measuring : {width height : ℕ} {r r′ : Lengths} → Measures width height r → Measures width height r′ → r ≡ r′

@@ -9,10 +9,12 @@ use session;
 use tables::Session;
 ghost use mathlib.Core.Path.{_≡_};
 ghost use Rattle.tables.specs.Lent.{before, after};
+ghost use Rattle.tables.specs.Told.{toldRefusal};
+ghost use Rattle.session.specs.Refusals.{toldBy as toldByCall};
 ghost use Rattle.session.specs.Promises.{hunterAt, targetAt, Places, Opens};
 ghost use Rattle.change.specs.Promise.{Changes};
 ghost use Rattle.search.specs.Promise.{Searches};
-ghost use Rattle.station.specs.Told.{reply, byteOf, callNumbers, searchNumbers, CallTold, SearchTold, Measures};
+ghost use Rattle.station.specs.Told.{replyOf, OutcomeTold, byteOf, CallTold, SearchTold, Measures};
 
 // The kinds of answer.
 const DONE: usize = 0;
@@ -46,7 +48,7 @@ pub struct Lengths {
 
 // A refusal in numbers: it "carries its number only".
 fn refused(session: Session, number: u8) -> Reply
-    ensures { λ r. ⌜ r ≡ reply session 4 number 0 0 0 ⌝ }
+    ensures { λ r. ⌜ r ≡ replyOf session (toldRefusal number) ⌝ }
 {
     Reply {
         session,
@@ -67,7 +69,7 @@ fn cost_of(cost: u32) -> usize
 
 // The answer of open, place or change in numbers.
 fn told(called: session::Reply) -> Reply
-    ensures { λ r. ⌜ r ≡ callNumbers (called .session) (called .answer) ⌝ }
+    ensures { λ r. ⌜ r ≡ replyOf (called .session) (toldByCall (called .answer)) ⌝ }
 {
     let session = called.session;
     let answer = called.answer;
@@ -86,7 +88,7 @@ fn told(called: session::Reply) -> Reply
 
 // The answer of a search in numbers.
 fn search_told(called: Outcome) -> Reply
-    ensures { λ r. ⌜ r ≡ searchNumbers (called .session) (called .answer) ⌝ }
+    ensures { λ r. ⌜ OutcomeTold called r ⌝ }
 {
     let session = called.session;
     let answer = called.answer;

@@ -1,4 +1,4 @@
-use Rattle.station.proofs.NumberLaws.{caught-told, none-told, way-told, search-refused-told}
+use Rattle.station.proofs.NumberLaws.{search-told, way-told, search-refused-told}
 use borrow.Author.Needs.{needs}
 use Rattle.station.proofs.search_told.Statement.{statement}
 use Rattle.station.proofs.search_told.Tie as tie
@@ -7,13 +7,13 @@ enum-told : tie.Need-enum-told
 enum-told c = search needs
 
 returns : tie.Need-returns
-returns c = caught-told _ (c .enum-told .given .1)
+returns c = search-told _ (c .enum-told .given .1)
 
 enum-known-answer : tie.Need-enum-known-answer
 enum-known-answer c = search needs
 
 returns-2 : tie.Need-returns-2
-returns-2 c = none-told _ (c .before .answer .given .1)
+returns-2 c = search-told _ (c .before .answer .given .1)
 
 enum-known-answer-2 : tie.Need-enum-known-answer-2
 enum-known-answer-2 c = search needs
