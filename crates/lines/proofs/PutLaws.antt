@@ -1,28 +1,35 @@
 -- Texts put one behind the other.
-use mathlib.Core.Path.{_≡_, refl, sym, ap, _∙_}
+use mathlib.Core.Path.{_≡_, refl, sym, ap, subst, _∙_}
 use mathlib.Core.List.{List, [], _∷_, _++_, append-assoc, append-nil}
-use Prim.Native.Nat.{ℕ, _+_, _/_, _%_, _≤_, _<_}
+use Prim.Native.Nat.{ℕ, _+_, _-_, _/_, _%_, _≤_, _<_}
 use native.Mathlib.Numerals.{add-one}
 use native.Mathlib.Omega.{arith}
-use lib.ListN.{length, take, set, getD, length-append, length-take, length-set}
-use lib.Seq.{take-suc, take-suc-set, length-take-le}
+use lib.ListN.{length, take, drop, set, getD, length-append, length-take, length-set}
+use lib.Seq.{take-suc, take-suc-set, length-take-le, drop-set-lt, drop-drop}
 use Rattle.lines.specs.Text.{bytes, decimal, spaced}
 use Rattle.lines.specs.Put.{Put}
 use Rattle.lines.proofs.TextLaws.{decimal-tens, cells-more}
 
 -- Nothing is put by leaving the buffer as it is.
 pub put-nothing : (b : List ℕ) (at : ℕ) → Put b at [] at b
-put-nothing b at = record { end = omega arith; stands = sym (append-nil (take at b)); long = refl }
+put-nothing b at = record { end = omega arith; stands = sym (append-nil (take at b)); behind = refl; long = refl }
 
 -- A byte stored at the place is put there.
 pub put-byte : (b : List ℕ) (at x : ℕ) → at < length b → Put b at (x ∷ []) (at + 1) (set b at x)
-put-byte b at x l = record { end = refl; stands = rw add-one (take-suc-set b at x l); long = length-set b at x }
+put-byte b at x l = record { end = refl; stands = rw add-one (take-suc-set b at x l); behind = drop-set-lt (at + 1) b at x (omega arith); long = length-set b at x }
+
+-- What is the same from a place on is the same from any later place on.
+later : (b a : List ℕ) (r q : ℕ) → r ≤ q → drop r a ≡ drop r b → drop q a ≡ drop q b
+later b a r q l e =
+    let n : r + (q - r) ≡ q = omega arith in
+    subst (λ k. drop k a ≡ drop k b) n (sym (drop-drop (q - r) r a) ∙ ap (drop (q - r)) e ∙ drop-drop (q - r) r b)
 
 -- A text put behind another: both are put, one after the other.
 pub put-then : {b m a x y : List ℕ} {at r q : ℕ} → Put b at x r m → Put m r y q a → Put b at (x ++ y) q a
-put-then {b} {m} {a} {x} {y} {at} p s = record {
+put-then {b} {m} {a} {x} {y} {at} {r} {q} p s = record {
   end = omega (arith, p .end, s .end, length-append x y);
   stands = s .stands ∙ ap (λ (l : List ℕ). l ++ y) (p .stands) ∙ append-assoc (take at b) x y;
+  behind = s .behind ∙ later b m r q (omega (arith, s .end)) (p .behind);
   long = s .long ∙ p .long;
 }
 
