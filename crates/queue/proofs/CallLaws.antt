@@ -164,14 +164,18 @@ module _ {width room count : ℕ} {k1 k2 place list : List ℕ} (h : Heap width 
 
 -- ---- the first place names the least cell
 
-pub first-least : (list : List ℕ) → LeastOf list (getD list 0 0)
+pub first-least : (list : List ℕ) → 0 < length list → LeastOf list (getD list 0 0)
 unfolding LeastOf
-first-least list width count k1 k2 place h b =
-    let p = h .tables .agree in
-    record {
-      member = place-member place (getD list 0 0) (omega (arith, p .named 0 b, p .lengthPlace)) (λ e. not-absent p b (sym (p .placed 0 b) ∙ e));
-      first = λ x q.
-          let m = member-place place x q in
-          let r = place-used p (omega (arith, m .0, p .lengthPlace)) (m .1) in
-          cc (r .1, root (before-order width k1 k2) (h .ordered) (getD place x 0) (r .0));
-    }
+first-least list l width count k1 k2 place h = (
+  λ b. record {
+    member = place-member place (getD list 0 0) (omega (arith, p .named 0 b, p .lengthPlace)) (λ e. not-absent p b (sym (p .placed 0 b) ∙ e));
+    first = λ x q.
+        let m = member-place place x q in
+        let r = place-used p (omega (arith, m .0, p .lengthPlace)) (m .1) in
+        cc (r .1, root (before-order width k1 k2) (h .ordered) (getD place x 0) (r .0));
+  },
+  λ z. p .unused 0 (omega arith) l,
+)
+  where
+    p : Agree (length list) count place list
+    p = h .tables .agree

@@ -116,7 +116,7 @@ least-only {width} {k1} {k2} {c = c} {d = d} l m = before-order width k1 k2 .tot
 module _ {width room count c : ℕ} {k1 k2 place list : List ℕ} (h : Heap width room count k1 k2 place list) (some : 0 < count) (l : LeastOf list c) where
   pub least-of : Least width k1 k2 (members place) c
   unfolding LeastOf
-  least-of = l width count k1 k2 place (heap-own h) some
+  least-of = l width count k1 k2 place (heap-own h) .0 some
 
   pub least-place : (c < room) × (getD place c 0 ≡ absent → ⊥)
   least-place = let m = member-place place c (least-of .member) in (omega (arith, m .0, h .tables .agree .lengthPlace), m .1)

@@ -79,7 +79,8 @@ pub record Least (width : ℕ) (k1 k2 : List ℕ) (queued : List Bool) (cell : �
   pub member : getD queued cell false ≡ true
   pub first : (x : ℕ) → getD queued x false ≡ true → before width k1 k2 x cell ≡ false
 
--- `cell` is the least of every queue that is not empty and has this list.
+-- `cell` is the least of every queue that has this list; of an empty one, which has none, it is 65,535.
 unfoldable pub LeastOf : List ℕ → ℕ → Type 0
 LeastOf list cell =
-    (width count : ℕ) (k1 k2 place : List ℕ) → Heap width (length list) count k1 k2 place list → 0 < count → Least width k1 k2 (members place) cell
+    (width count : ℕ) (k1 k2 place : List ℕ) → Heap width (length list) count k1 k2 place list
+    → (0 < count → Least width k1 k2 (members place) cell) × (count ≡ 0 → cell ≡ absent)

@@ -252,7 +252,7 @@ pub fn take_out(
     last
 }
 
-// The least cell of a queue that is not empty: the first of its list.
+// The least cell of a queue, the first of its list; 65,535 where the queue is empty.
 pub fn least(list: &[u16]) -> usize
     requires { ⌜ 0 < length (now list) ⌝ }
     ensures { λ r. ⌜ LeastOf (now (list .entry)) r ⌝ }

@@ -11,7 +11,7 @@ wide-requires : tie.Need-wide-requires
 wide-requires c κs = search needs
 
 returns : tie.Need-returns
-returns c = rw (c .wide .ensures) (first-least _)
+returns c = rw (c .wide .ensures) (first-least _ (c .before .before .before .pre))
 
 pub least-spec : {M : Type 1} → statement M
 least-spec = tie.close (tie.spec shared-slice-read-wide wide-requires returns)
