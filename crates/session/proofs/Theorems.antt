@@ -173,22 +173,23 @@ alike {width} {room} a a′ p c h h′ =
 
 -- ---- sound tables
 
--- An open that is done leaves sound tables.
+-- A fresh start leaves sound tables ..
+pub fresh-sound : {width height hunter target : ℕ} {t t′ : Tables} → Openable width height hunter target t → Opened width height hunter target t t′ → Sound (begun width height hunter target) t′
+fresh-sound {width} {height} {hunter} {target} {t} {t′} o p = record {
+  plan = subst (λ x. Obeys (planOf width height x)) (sym (p .plan)) (o .obeys);
+  numbers =
+      subst (λ x. method-sound.Sound (graphOf (planOf width height x)) (opened hunter target) (core t′)) (sym (p .plan))
+      (subst (λ T. method-sound.Sound (graphOf (planOf width height (t .plan))) (opened hunter target) T) (sym (p .is))
+      (method-theorems.open-sound (graph-laws (planOf width height (t .plan)) (o .obeys .size)) hunter target (o .hunter-in) (o .target-in)));
+  heap = p .heap;
+}
+
+-- .. and so does an open that is done.
 pub opened-sound : {width height hunter target : ℕ} {t t′ : Tables} {r : Reply} → Opens width height hunter target t r t′ → r .answer ≡ Done → Sound (r .session) t′
-opened-sound {width} {height} {hunter} {target} {t} {t′} {r} P e =
+opened-sound {t′ = t′} P e =
     let z = done-zero (P .number) (sym (open-answer P) ∙ e) in
     let p = P .done z in
-    subst (λ x. Sound x t′) (sym (p .0)) (at (open-granted (P .rules) z) (p .1))
-  where
-    at : Openable width height hunter target t → Opened width height hunter target t t′ → Sound (begun width height hunter target) t′
-    at o p = record {
-      plan = subst (λ x. Obeys (planOf width height x)) (sym (p .plan)) (o .obeys);
-      numbers =
-          subst (λ x. method-sound.Sound (graphOf (planOf width height x)) (opened hunter target) (core t′)) (sym (p .plan))
-          (subst (λ T. method-sound.Sound (graphOf (planOf width height (t .plan))) (opened hunter target) T) (sym (p .is))
-          (method-theorems.open-sound (graph-laws (planOf width height (t .plan)) (o .obeys .size)) hunter target (o .hunter-in) (o .target-in)));
-      heap = p .heap;
-    }
+    subst (λ x. Sound x t′) (sym (p .0)) (fresh-sound (open-granted (P .rules) z) (p .1))
 
 -- Placing the hunter or the target, which writes no table, keeps sound tables sound.
 placed-sound : {s placed : Session} {t : Tables} {cell : ℕ} {r : Reply} → Sound s t → (cell < cells s → Sound placed t) → Places s placed cell r → Sound (r .session) t

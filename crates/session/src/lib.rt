@@ -70,7 +70,7 @@ pub fn place_target(s: tables::Session, cell: usize) -> Reply
 }
 
 // The number of the first rule that an open breaks, 0 if none.
-fn open_refusal(
+pub fn open_refusal(
     width: usize,
     height: usize,
     hunter: usize,
