@@ -1,6 +1,5 @@
 pub mod NumberLaws
 pub mod PlayLaws
+pub mod PieceLaws
 pub mod CaseLaws
 pub mod Theorems
-pub mod LentAgain
-pub mod Lending

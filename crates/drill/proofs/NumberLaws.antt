@@ -1,23 +1,24 @@
 -- The numbers by which a file, open and a change are refused are those of the calls' rules; what a file of right form has.
-use mathlib.Core.Path.{_≡_, refl, sym, ap, _∙_}
-use mathlib.Core.Bool.{true}
+use mathlib.Core.Path.{_≡_, sym, _∙_}
+use mathlib.Core.Logic.{_≢_}
 use mathlib.Core.List.{List}
 use Prim.Native.Nat.{ℕ, _+_, _*_, _≤_}
 use native.Mathlib.Omega.{arith}
 use native.Mathlib.Decide.{ℕ-discrete}
 use lib.ListN.{length}
 use Rattle.method.specs.Tables.{choose}
-use Rattle.method.proofs.Choices.{choose-yes, choose-no, choose-is}
+use Rattle.method.proofs.Choices.{choose-yes, choose-no}
 use Rattle.plan.specs.Cells.{Size}
 use Rattle.plan.specs.Costs.{planOf}
 use Rattle.tables.specs.declared.Session.{Session}
 use Rattle.tables.specs.Lent.{Tables, cells, floor, Fits}
-use Rattle.session.specs.Refusals.{Ruled, fails, holds, Passed, OpenRules}
+use Rattle.session.specs.Refusals.{Ruled, fails, holds, OpenRules}
 use Rattle.session.proofs.RefusalLaws.{passed-zero, onward}
 use Rattle.change.specs.Refusals.{MoveRules}
 use Rattle.drill_file.specs.File as drill-file
+use Rattle.lines.specs.Text.{refusedLine}
 use Rattle.drill.specs.Numbers.{openNumber, moveNumber}
-use Rattle.drill.specs.Output.{planIn, fileNumber}
+use Rattle.drill.specs.Output.{planIn, fileNumber, output}
 
 -- The number of the first rule that fails is the choice of a test of that rule.
 chosen : {P : Type 0} (test : Dec P) {n k x : ℕ} {rest : ℕ → Type 0} → (rest k → k ≡ x) → Ruled P n rest k → k ≡ choose test x n
@@ -59,3 +60,21 @@ formed file e =
 pub file-number : (file : List ℕ) → drill-file.formNumber file ≡ 0 → fileNumber file ≡ openNumber (planIn file) (drill-file.trailerOf file .hunter) (drill-file.trailerOf file .target)
 unfolding fileNumber
 file-number file e = choose-yes (ℕ-discrete (drill-file.formNumber file) 0) _ _ e
+
+-- A file whose form is not right is refused by the form's number.
+pub form-refused : (file : List ℕ) → drill-file.formNumber file ≢ 0 → fileNumber file ≡ drill-file.formNumber file
+unfolding fileNumber
+form-refused file n = choose-no (ℕ-discrete (drill-file.formNumber file) 0) _ _ n
+
+-- So a file that is played has the right form.
+pub file-formed : (file : List ℕ) → fileNumber file ≡ 0 → drill-file.formNumber file ≡ 0
+file-formed file z = at (ℕ-discrete (drill-file.formNumber file) 0)
+  where
+    at : Dec (drill-file.formNumber file ≡ 0) → drill-file.formNumber file ≡ 0
+    at (yes e) = e
+    at (no n) = sym (form-refused file n) ∙ z
+
+-- A refused file prints its number, nothing else.
+pub refused-prints : (file : List ℕ) → fileNumber file ≢ 0 → output file ≡ refusedLine (fileNumber file)
+unfolding output
+refused-prints file n = choose-no (ℕ-discrete (fileNumber file) 0) _ _ n

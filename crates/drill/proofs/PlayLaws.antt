@@ -1,35 +1,31 @@
 -- The calls leave what the definition of a drill says, and their lines are the definition's.
 use mathlib.Core.Path.{_≡_, refl, sym, ap, subst, _∙_}
 use mathlib.Core.Logic.{_⊎_, inl, inr, ⊎-elim, _≢_}
-use mathlib.Core.List.{List, [], _∷_, _++_, append-assoc}
+use mathlib.Core.List.{List, [], _∷_, _++_, append-assoc, append-nil}
 use Prim.Native.Nat.{ℕ, zero, suc, _+_, _*_, _-_, _≤_, _<_}
-use native.Mathlib.Numerals.{add-one}
 use native.Mathlib.Omega.{arith}
 use native.Mathlib.Decide.{ℕ-discrete, decLt}
 use lib.Dec.{leb}
-use lib.ListN.{length, take, set, getD, drop}
-use lib.Seq.{take-suc, take-length, take-append-seam, length-take-le}
+use lib.ListN.{length, take, drop}
+use lib.Seq.{take-append-seam}
 use Rattle.method.specs.Tables.{choose}
-use Rattle.method.specs.Tables as method
 use Rattle.method.specs.Session as method-session
 use Rattle.method.proofs.Choices.{choose-yes, choose-no}
 use Rattle.decide.specs.Decides.{Decides}
 use Rattle.decide.proofs.DecideLaws.{decides-le}
-use Rattle.plan.specs.Costs.{planOf, Plan}
+use Rattle.plan.specs.Costs.{planOf}
 use Rattle.plan.specs.Costs as costs
-use Rattle.plan.proofs.MoveLaws.{area}
 use Rattle.tables.specs.declared.Session.{Session}
-use Rattle.tables.specs.Lent.{Tables, cells, floor, graph, session, core, Fits}
+use Rattle.tables.specs.Lent.{Tables, cells, floor, session, core, Fits}
 use Rattle.tables.specs.Sound.{Sound}
 use Rattle.tables.proofs.SoundLaws.{sound-fits}
 use Rattle.session.specs.declared.Answer.{Answer}
-use Rattle.session.specs.declared.Answer.the-variants.{Done, Refused}
 use Rattle.session.specs.declared.Reply.{Reply}
 use Rattle.session.specs.Refusals.{Ruled, fails, holds, Passed, passed, answered}
-use Rattle.session.specs.Promises.{hunterAt, targetAt, Places, Opens}
+use Rattle.session.specs.Promises.{hunterAt, targetAt, Places}
 use Rattle.session.proofs.RefusalLaws.{passed-zero, onward, place-granted, sound-rules}
-use Rattle.session.proofs.Theorems.{opened-sound, hunter-placed-sound, target-placed-sound}
-use Rattle.change.specs.Promise.{withPlan, Changes}
+use Rattle.session.proofs.Theorems.{hunter-placed-sound, target-placed-sound}
+use Rattle.change.specs.Promise.{Changes}
 use Rattle.change.proofs.Theorems.{change-keeps-sound}
 use Rattle.search.specs.declared.Outcome.{Outcome}
 use Rattle.answer.specs.declared.Answer as search-answer
@@ -39,48 +35,34 @@ use Rattle.demands.specs.Demands.{RightlyAnswered, caught, none-leads, way-show
 use Rattle.demands.proofs.Demands.{demand-2, demand-3}
 use Rattle.drill_file.specs.declared.Action.{Action}
 use Rattle.drill_file.specs.declared.Action.the-variants.{Change, Hunter, Target, Search, Bad}
-use Rattle.drill_file.specs.declared.Trailer as drill-file-trailer
-use Rattle.drill_file.specs.File as drill-file
-use Rattle.drill_file.proofs.FileLaws.{first}
+use Rattle.drill_file.specs.File.{actionAt, actionsFrom}
 use Rattle.lines.specs.Text.{refusedLine, line, room}
 use Rattle.lines.specs.Put.{Put}
-use Rattle.lines.proofs.PutLaws.{put-nothing, put-byte, put-then, put-as, put-end}
+use Rattle.lines.proofs.PutLaws.{put-nothing, put-then, put-as, put-end}
 use Rattle.drill.specs.declared.Turned.{Turned}
-use Rattle.drill.specs.declared.Played.{Played}
-use Rattle.drill.specs.Numbers.{openNumber, moveNumber}
-use Rattle.drill.specs.Play.{Standing, standing, changed, Turn, accepted, refused, turn, played}
-use Rattle.drill.specs.Output.{planIn, fileNumber, opens, begun}
-use Rattle.drill.specs.Promises.{stands, told, Ready, Turns, Plays, Opening, Begins}
-use Rattle.drill.proofs.NumberLaws.{move-number, open-number, Formed, formed, file-number}
-
--- ---- the plan copied
-
--- One more byte is copied.
-pub copied-more : {b a : List ℕ} (file : List ℕ) (i : ℕ) → i < length b → i < length file → Put b 0 (take i file) i a → Put b 0 (take (i + 1) file) (i + 1) (set a i (getD file i 0))
-copied-more {b} {a} file i lb lf p =
-    put-as (sym (take-suc file i 0 lf) ∙ ap (λ k. take k file) (sym (add-one i))) refl (put-then p (put-byte a i (getD file i 0) (omega (arith, p .long))))
-
--- All of it is copied.
-pub copied-all : {b a : List ℕ} (file : List ℕ) (i : ℕ) → i ≡ length b → Put b 0 (take i file) i a → a ≡ take (length b) file
-copied-all {b} {a} file i e p = sym (ap (λ k. take k a) (e ∙ sym (p .long)) ∙ take-length a) ∙ p .stands ∙ ap (λ k. take k file) e
+use Rattle.drill.specs.Numbers.{moveNumber}
+use Rattle.drill.specs.Play.{Standing, standing, Turn, accepted, refused, turn, played, leftBy, wayLeft}
+use Rattle.drill.specs.Promises.{stands, told, Ready, Turns, Plays}
+use Rattle.drill.proofs.NumberLaws.{move-number}
 
 -- ---- a reply to an action
 
--- The reply to an action leaves what the definition says, and its line is the definition's.
+-- The reply to an action that writes no cells leaves what the definition says, and its line is the definition's.
 pub record Replied (a : Action) (s : Session) (t : Tables) (r : Reply) (t′ : Tables) : Type 0 where
   pub sound : Sound (r .session) t′
   pub wide : r .session .width ≡ s .width
   pub high : r .session .height ≡ s .height
-  pub is : turn (stands s t) a ≡ record { after = stands (r .session) t′; line = told (r .answer) }
+  pub is : turn (stands s t) a ≡ record { after = stands (r .session) t′; shown = []; line = told (r .answer) }
 
 -- The action is played once the line of its reply is put.
-pub turns-of : {a : Action} {s : Session} {t t′ : Tables} {r : Reply} {text text′ : List ℕ} {used : ℕ} {x : Turned} → Replied a s t r t′
-    → (x .session ≡ r .session) × Put text used (told (r .answer)) (x .used) text′ → Turns a s t text used x t′ text′
-turns-of {a} {s} {t} {t′} {r} {text} {text′} {used} {x} R p = record {
+pub turns-of : {a : Action} {s : Session} {t t′ : Tables} {r : Reply} {way text text′ : List ℕ} {used : ℕ} {x : Turned} → Replied a s t r t′
+    → (x .session ≡ r .session) × Put text used (told (r .answer)) (x .used) text′ → Turns a s t way text used x t′ way text′
+turns-of {a} {s} {t} {t′} {r} {way} {text} {text′} {used} {x} R p = record {
   sound = subst (λ y. Sound y t′) (sym (p .0)) (R .sound);
   wide = ap (λ y. y .width) (p .0) ∙ R .wide;
   high = ap (λ y. y .height) (p .0) ∙ R .high;
   after = ap (λ y. stands y t′) (p .0) ∙ sym (ap (λ y. y .after) (R .is));
+  shown = sym (ap (λ (y : Turn). written (y .shown) way) (R .is));
   line = put-as (sym (ap (λ y. y .line) (R .is))) refl (p .1);
 }
 
@@ -105,8 +87,8 @@ placed-replied a {s} {placed} {t} {cell} {r} e w h S S′ P = at (ℕ-discrete (
       sound = S′;
       wide = ap (λ y. y .width) (P .done z) ∙ w;
       high = ap (λ y. y .height) (P .done z) ∙ h;
-      is = e ∙ choose-yes (decLt cell (cells s)) _ _ (place-granted s (P .rules) z .1) ∙ ap (λ y. record { after = stands y t; line = [] }) (sym (P .done z))
-          ∙ ap (λ y. record { after = stands (r .session) t; line = told y }) (sym (P .answer ∙ ap answered z));
+      is = e ∙ choose-yes (decLt cell (cells s)) _ _ (place-granted s (P .rules) z .1) ∙ ap (λ y. record { after = stands y t; shown = []; line = [] }) (sym (P .done z))
+          ∙ ap (λ y. record { after = stands (r .session) t; shown = []; line = told y }) (sym (P .answer ∙ ap answered z));
     }
     at (no n) =
         let q = placed-three (onward (S .plan .size) (P .rules)) n in
@@ -114,8 +96,8 @@ placed-replied a {s} {placed} {t} {cell} {r} e w h S S′ P = at (ℕ-discrete (
           sound = S′;
           wide = ap (λ y. y .width) (P .refused n);
           high = ap (λ y. y .height) (P .refused n);
-          is = e ∙ choose-no (decLt cell (cells s)) _ _ (q .1) ∙ ap (λ y. record { after = stands y t; line = refusedLine 3 }) (sym (P .refused n))
-              ∙ ap (λ y. record { after = stands (r .session) t; line = told y }) (sym (P .answer ∙ ap answered (q .0)));
+          is = e ∙ choose-no (decLt cell (cells s)) _ _ (q .1) ∙ ap (λ y. record { after = stands y t; shown = []; line = refusedLine 3 }) (sym (P .refused n))
+              ∙ ap (λ y. record { after = stands (r .session) t; shown = []; line = told y }) (sym (P .answer ∙ ap answered (q .0)));
         }
 
 pub hunter-replied : {s : Session} {t : Tables} {cell : ℕ} {r : Reply} → Sound s t → Places s (hunterAt s cell) cell r → Replied (Hunter cell) s t r t
@@ -145,10 +127,10 @@ change-replied {s} {t} {t′} {u} {d} {cost} {r} S P = at (ℕ-discrete (P .numb
           wide = ap (λ y. y .width) (p .0);
           high = ap (λ y. y .height) (p .0);
           is = choose-yes test _ _ (sym n-is ∙ z)
-              ∙ ap (λ y. record { after = standing (planOf (s .width) (s .height) (costs.withByte (floor s (t .plan)) u d cost .bytes)) (session s) y; line = [] }) (sym (p .1 .is))
-              ∙ ap (λ y. record { after = standing (planOf (s .width) (s .height) y) (session s) (core t′); line = [] }) (sym (p .1 .plan))
-              ∙ ap (λ y. record { after = stands y t′; line = [] }) (sym (p .0))
-              ∙ ap (λ y. record { after = stands (r .session) t′; line = told y }) (sym (P .answer ∙ ap answered z));
+              ∙ ap (λ y. record { after = standing (planOf (s .width) (s .height) (costs.withByte (floor s (t .plan)) u d cost .bytes)) (session s) y; shown = []; line = [] }) (sym (p .1 .is))
+              ∙ ap (λ y. record { after = standing (planOf (s .width) (s .height) y) (session s) (core t′); shown = []; line = [] }) (sym (p .1 .plan))
+              ∙ ap (λ y. record { after = stands y t′; shown = []; line = [] }) (sym (p .0))
+              ∙ ap (λ y. record { after = stands (r .session) t′; shown = []; line = told y }) (sym (P .answer ∙ ap answered z));
         }
     at (no n) =
         let p = P .refused n in
@@ -156,9 +138,9 @@ change-replied {s} {t} {t′} {u} {d} {cost} {r} S P = at (ℕ-discrete (P .numb
           sound = change-keeps-sound S P;
           wide = ap (λ y. y .width) (p .0);
           high = ap (λ y. y .height) (p .0);
-          is = choose-no test _ _ (λ e. n (n-is ∙ e)) ∙ ap (λ k. record { after = stands s t; line = refusedLine k }) (sym n-is)
-              ∙ ap (λ y. record { after = stands s y; line = refusedLine (P .number) }) (sym (p .1)) ∙ ap (λ y. record { after = stands y t′; line = refusedLine (P .number) }) (sym (p .0))
-              ∙ ap (λ y. record { after = stands (r .session) t′; line = y }) (sym (ap told (P .answer) ∙ told-refused (P .number) n));
+          is = choose-no test _ _ (λ e. n (n-is ∙ e)) ∙ ap (λ k. record { after = stands s t; shown = []; line = refusedLine k }) (sym n-is)
+              ∙ ap (λ y. record { after = stands s y; shown = []; line = refusedLine (P .number) }) (sym (p .1)) ∙ ap (λ y. record { after = stands y t′; shown = []; line = refusedLine (P .number) }) (sym (p .0))
+              ∙ ap (λ y. record { after = stands (r .session) t′; shown = []; line = y }) (sym (ap told (P .answer) ∙ told-refused (P .number) n));
         }
 
 -- ---- a search
@@ -183,19 +165,22 @@ module _ {s : Session} {t t′ : Tables} {way way′ : List ℕ} {r : Outcome} (
   line-is (method-session.way c n l) = ap (λ k. line (answerOf (method-session.way c n l)) k) (take-append-seam l (drop (length l) way))
   line-is method-session.cut-off = refl
 
-  -- What it leaves, and its line, are the definition's.
-  pub search-is : turn (stands s t) Search ≡ record { after = stands (r .session) t′; line = line (r .answer) (take (toldBy (r .answer) .cells) way′) }
+  -- What it leaves, the cells that it writes, and its line, are the definition's.
+  pub search-is : turn (stands s t) Search ≡ record { after = stands (r .session) t′; shown = cellsOf (outcome s t .answer); line = line (r .answer) (take (toldBy (r .answer) .cells) way′) }
   unfolding turn
   search-is =
       sym (
-      ap (λ w. record { after = standing (planOf w (r .session .height) (t′ .plan)) (session (r .session)) (core t′); line = printed }) (D .wide)
-      ∙ ap (λ h. record { after = standing (planOf (s .width) h (t′ .plan)) (session (r .session)) (core t′); line = printed }) (D .high)
-      ∙ ap (λ y. record { after = standing (planOf (s .width) (s .height) y) (session (r .session)) (core t′); line = printed }) (D .plan)
-      ∙ ap (λ y. record { after = standing (floor s (t .plan)) y (core t′); line = printed }) (D .record-is)
-      ∙ ap (λ y. record { after = standing (floor s (t .plan)) (outcome s t .session) y; line = printed }) (D .tables-are)
-      ∙ ap (λ y. record { after = standing (floor s (t .plan)) (outcome s t .session) (outcome s t .tables); line = y }) printed-is
+      ap (λ w. with-line (standing (planOf w (r .session .height) (t′ .plan)) (session (r .session)) (core t′)) printed) (D .wide)
+      ∙ ap (λ h. with-line (standing (planOf (s .width) h (t′ .plan)) (session (r .session)) (core t′)) printed) (D .high)
+      ∙ ap (λ y. with-line (standing (planOf (s .width) (s .height) y) (session (r .session)) (core t′)) printed) (D .plan)
+      ∙ ap (λ y. with-line (standing (floor s (t .plan)) y (core t′)) printed) (D .record-is)
+      ∙ ap (λ y. with-line (standing (floor s (t .plan)) (outcome s t .session) y) printed) (D .tables-are)
+      ∙ ap (λ y. with-line (standing (floor s (t .plan)) (outcome s t .session) (outcome s t .tables)) y) printed-is
       )
     where
+      with-line : Standing → List ℕ → Turn
+      with-line S l = record { after = S; shown = cellsOf (outcome s t .answer); line = l }
+
       printed : List ℕ
       printed = line (r .answer) (take (toldBy (r .answer) .cells) way′)
 
@@ -205,142 +190,152 @@ module _ {s : Session} {t t′ : Tables} {way way′ : List ℕ} {r : Outcome} (
           ∙ ap (λ w. line (answerOf (outcome s t .answer)) (take (toldBy (answerOf (outcome s t .answer)) .cells) w)) (D .shown) ∙ line-is (outcome s t .answer)
 
   pub search-turns : {text text′ : List ℕ} {used end : ℕ} → Put text used (line (r .answer) (take (toldBy (r .answer) .cells) way′)) end text′
-      → Turns Search s t text used (record { session = r .session; used = end }) t′ text′
+      → Turns Search s t way text used (record { session = r .session; used = end }) t′ way′ text′
   search-turns p = record {
     sound = demand-3 S way long searches .sound-again;
     wide = D .wide;
     high = D .high;
     after = sym (ap (λ (x : Turn). x .after) search-is);
+    shown = D .shown ∙ sym (ap (λ (x : Turn). written (x .shown) way) search-is);
     line = put-as (sym (ap (λ (x : Turn). x .line) search-is)) refl p;
   }
 
 -- ---- a badly formed action, which no file that is played has
 
-pub bad-turns : {s : Session} {t : Tables} {text : List ℕ} {used : ℕ} → Sound s t → Turns Bad s t text used (record { session = s; used = used }) t text
+pub bad-turns : {s : Session} {t : Tables} {way text : List ℕ} {used : ℕ} → Sound s t → Turns Bad s t way text used (record { session = s; used = used }) t way text
 unfolding turn
-bad-turns S = record { sound = S; wide = refl; high = refl; after = refl; line = put-nothing _ _ }
-
--- ---- a file opened
-
--- A file of right form has more bytes than its plan, and a trailer.
-pub plan-in-file : {file : List ℕ} {t : Tables} → Opening file t → length (t .plan) ≤ length file
-plan-in-file {file} O = let F = formed file (O .formed) in omega (arith, O .fits .plan, F .offset, F .whole)
-
-pub trailer-in-file : {file : List ℕ} {t : Tables} → Opening file t → 12 ≤ length file
-trailer-in-file {file} O = formed file (O .formed) .long
-
--- The plan's bytes as they are copied.
-copied-plan : {file : List ℕ} {t : Tables} → Opening file t → take (length (t .plan)) file ≡ take (4 * drill-file.cells (drill-file.trailerOf file)) file
-copied-plan {file} O = ap (λ k. take k file) (O .fits .plan)
-
--- Open on the file's plan leaves what the definition says.
-pub begins : {file : List ℕ} {t t′ : Tables} {plan : List ℕ} {x : drill-file-trailer.Trailer} {r : Reply} → Opening file t → x ≡ drill-file.trailerOf file → plan ≡ take (length (t .plan)) file
-    → Opens (x .width) (x .height) (x .hunter) (x .target) (withPlan t plan) r t′ → Begins file r t′
-begins {file} {t} {t′} {plan} {x} {r} O e p P =
-    at (subst (λ (y : drill-file-trailer.Trailer). Opens (y .width) (y .height) (y .hunter) (y .target) (withPlan t plan) r t′) e P)
-  where
-    F : Formed file
-    F = formed file (O .formed)
-
-    w : ℕ
-    w = drill-file.trailerOf file .width
-
-    h : ℕ
-    h = drill-file.trailerOf file .height
-
-    plan-is : planOf w h plan ≡ planIn file
-    plan-is = ap (planOf w h) (p ∙ copied-plan O)
-
-    fits : Fits (h * w) (withPlan t plan)
-    fits = record {
-      plan = ap length p ∙ length-take-le (length (t .plan)) file (plan-in-file O) ∙ O .fits .plan;
-      g = O .fits .g;
-      rhs = O .fits .rhs;
-      parent = O .fits .parent;
-      k1 = O .fits .k1;
-      k2 = O .fits .k2;
-      place = O .fits .place;
-      list = O .fits .list;
-    }
-
-    at : Opens w h (drill-file.trailerOf file .hunter) (drill-file.trailerOf file .target) (withPlan t plan) r t′ → Begins file r t′
-    at Q =
-        let n : Q .number ≡ fileNumber file =
-        open-number (F .size) fits (Q .rules) ∙ ap (λ y. openNumber y (drill-file.trailerOf file .hunter) (drill-file.trailerOf file .target)) plan-is ∙ sym (file-number file (O .formed)) in
-        record {
-          answer = Q .answer ∙ ap answered n;
-          sound = λ z. opened-sound Q (Q .answer ∙ ap answered (n ∙ z));
-          after = λ z. let d = Q .done (n ∙ z) in
-              ap (λ y. stands y t′) (d .0) ∙ ap (λ y. standing (planOf w h y) (method-session.opened (drill-file.trailerOf file .hunter) (drill-file.trailerOf file .target)) (core t′)) (d .1 .plan)
-              ∙ ap (λ y. standing (planOf w h plan) (method-session.opened (drill-file.trailerOf file .hunter) (drill-file.trailerOf file .target)) y) (d .1 .is)
-              ∙ ap (λ y. opens y (drill-file.trailerOf file .hunter) (drill-file.trailerOf file .target)) plan-is;
-        }
+bad-turns S = record { sound = S; wide = refl; high = refl; after = refl; shown = refl; line = put-nothing _ _ }
 
 -- ---- the action at a place
 
 -- What was played is the action that was read.
-pub turns-at : {x a b : Action} {s : Session} {t t′ : Tables} {text text′ : List ℕ} {used : ℕ} {r : Turned} → x ≡ a → x ≡ b → Turns a s t text used r t′ text′ → Turns b s t text used r t′ text′
-turns-at {s = s} {t} {t′} {text} {text′} {used} {r} e f T = subst (λ y. Turns y s t text used r t′ text′) (sym e ∙ f) T
+pub turns-at : {x a b : Action} {s : Session} {t t′ : Tables} {way way′ text text′ : List ℕ} {used : ℕ} {r : Turned} → x ≡ a → x ≡ b → Turns a s t way text used r t′ way′ text′
+    → Turns b s t way text used r t′ way′ text′
+turns-at {s = s} {t} {t′} {way} {way′} {text} {text′} {used} {r} e f T = subst (λ y. Turns y s t way text used r t′ way′ text′) (sym e ∙ f) T
+
+-- ---- the definitions of actions one after the other
+
+-- Some actions, and then those after them.
+pub actions-more : (file : List ℕ) (at n m : ℕ) → actionsFrom file at (n + m) ≡ actionsFrom file at n ++ actionsFrom file (at + 5 * n) m
+unfolding actionsFrom
+actions-more file at zero m = let e : zero + m ≡ m = omega arith in let f : at + 5 * zero ≡ at = omega arith in rw (e, f)
+actions-more file at (suc n) m =
+    let e : suc n + m ≡ suc (n + m) = omega arith in
+    let f : at + 5 + 5 * n ≡ at + 5 * suc n = omega arith in
+    ap (actionsFrom file at) e ∙ ap (λ (l : List Action). actionAt file at ∷ l) (actions-more file (at + 5) n m ∙ ap (λ k. actionsFrom file (at + 5) n ++ actionsFrom file k m) f)
+
+-- What they print, what they leave, and what they leave in the way list.
+pub played-more : (S : Standing) (l m : List Action) → played S (l ++ m) ≡ played S l ++ played (leftBy S l) m
+unfolding played leftBy
+played-more S [] m = refl
+played-more S (a ∷ l) m = ap (λ (x : List ℕ). turn S a .line ++ x) (played-more (turn S a .after) l m) ∙ sym (append-assoc (turn S a .line) (played (turn S a .after) l) _)
+
+left-more : (S : Standing) (l m : List Action) → leftBy S (l ++ m) ≡ leftBy (leftBy S l) m
+unfolding leftBy
+left-more S [] m = refl
+left-more S (a ∷ l) m = left-more (turn S a .after) l m
+
+way-more : (S : Standing) (l m : List Action) (way : List ℕ) → wayLeft S (l ++ m) way ≡ wayLeft (leftBy S l) m (wayLeft S l way)
+unfolding leftBy wayLeft
+way-more S [] m way = refl
+way-more S (a ∷ l) m way = way-more (turn S a .after) l m (written (turn S a .shown) way)
 
 -- ---- the actions one after the other
 
--- So far: what stands in the text, and then what the actions left over print, is what all of them print.
-pub record Going (file : List ℕ) (s : Session) (t : Tables) (start actions : ℕ) (text₀ : List ℕ) (now : Session) (t′ : Tables) (text : List ℕ) (at left used : ℕ) : Type 0 where
+-- So far the first `done` actions are played: record and tables, the way list and the text are what the definitions give for them.
+pub record Going (file : List ℕ) (s : Session) (t : Tables) (way₀ : List ℕ) (start actions : ℕ) (text₀ : List ℕ) (now : Session) (t′ : Tables) (way text : List ℕ) (at left used : ℕ) : Type 0 where
+  pub done : ℕ
+  pub all : actions ≡ done + left
+  pub place : at ≡ start + 5 * done
   pub sound : Sound now t′
   pub wide : now .width ≡ s .width
   pub high : now .height ≡ s .height
-  pub long : length text ≡ length text₀
-  pub put : used ≤ length text₀
-  pub place : at + 5 * left ≡ start + 5 * actions
-  pub prints : played (stands s t) (drill-file.actionsFrom file start actions) ≡ take used text ++ played (stands now t′) (drill-file.actionsFrom file at left)
-  pub moved : ((left ≡ actions) × (used ≡ 0)) ⊎ (left < actions)
+  pub after : stands now t′ ≡ leftBy (stands s t) (actionsFrom file start done)
+  pub shown : way ≡ wayLeft (stands s t) (actionsFrom file start done) way₀
+  pub lines : Put text₀ 0 (played (stands s t) (actionsFrom file start done)) used text
 
-pub going-start : {file : List ℕ} {s : Session} {t : Tables} {start actions : ℕ} {text : List ℕ} → Sound s t → Going file s t start actions text s t text start actions 0
-going-start S = record { sound = S; wide = refl; high = refl; long = refl; put = omega arith; place = refl; prints = refl; moved = inl (refl, refl) }
+pub going-start : {file : List ℕ} {s : Session} {t : Tables} {way : List ℕ} {start actions : ℕ} {text : List ℕ} → Sound s t → Going file s t way start actions text s t way text start actions 0
+unfolding actionsFrom played leftBy wayLeft
+going-start S = record { done = 0; all = omega arith; place = omega arith; sound = S; wide = refl; high = refl; after = refl; shown = refl; lines = put-nothing _ _ }
 
--- The next action can be played where the text has room for the longest line.
-pub going-ready : {file : List ℕ} {s : Session} {t : Tables} {start actions : ℕ} {text₀ : List ℕ} {now : Session} {t′ : Tables} {text : List ℕ} {at left used : ℕ}
-    → Going file s t start actions text₀ now t′ text at left used → (way : List ℕ) → cells s ≤ length way → used + room (cells s) ≤ length text → Ready now t′ way text used
-going-ready {s = s} {now = now} G way l m = record { sound = G .sound; way-room = omega (arith, l, same); text-room = omega (arith, m, same) }
-  where
-    same : cells now ≡ cells s
-    same = ap (λ h. h * now .width) (G .high) ∙ ap (λ w. s .height * w) (G .wide)
+module _ {file : List ℕ} {s : Session} {t : Tables} {way₀ : List ℕ} {start actions : ℕ} {text₀ : List ℕ} {now : Session} {t′ : Tables} {way text : List ℕ} {at left used : ℕ}
+    (G : Going file s t way₀ start actions text₀ now t′ way text at left used) where
+  -- The size stays as it was, and the tables keep their lengths.
+  pub going-cells : cells now ≡ cells s
+  going-cells = ap (λ h. h * now .width) (G .high) ∙ ap (λ w. s .height * w) (G .wide)
 
--- One more action is played.
-pub going-more : {file : List ℕ} {s : Session} {t : Tables} {start actions : ℕ} {text₀ : List ℕ} {now : Session} {t′ t″ : Tables} {text text′ : List ℕ} {at left used : ℕ} {r : Turned}
-    → 0 < left → Going file s t start actions text₀ now t′ text at left used → Turns (drill-file.actionAt file at) now t′ text used r t″ text′
-    → Going file s t start actions text₀ (r .session) t″ text′ (at + 5) (left - 1) (r .used)
-unfolding played
-going-more {file} {s} {t} {start} {actions} {text₀} {now} {t′} {t″} {text} {text′} {at} {left} {used} {r} l G T = record {
-  sound = T .sound;
-  wide = T .wide ∙ G .wide;
-  high = T .high ∙ G .high;
-  long = T .line .long ∙ G .long;
-  put = omega (arith, put-end (T .line) (omega (arith, G .put, G .long)), T .line .long, G .long);
-  place = omega (arith, G .place);
-  prints =
-      G .prints ∙ ap (λ x. take used text ++ played (stands now t′) x) (first file at left l)
-      ∙ sym (append-assoc (take used text) (turn (stands now t′) (drill-file.actionAt file at) .line) _)
-      ∙ ap (λ (x : List ℕ). x ++ played (turn (stands now t′) (drill-file.actionAt file at) .after) (drill-file.actionsFrom file (at + 5) (left - 1))) (sym (T .line .stands))
-      ∙ ap (λ x. take (r .used) text′ ++ played x (drill-file.actionsFrom file (at + 5) (left - 1))) (sym (T .after));
-  moved = inr (⊎-elim (λ e. omega (arith, e .0)) (λ e. omega (arith, e)) (G .moved));
-}
+  pub going-fits : Fits (cells s) t′
+  going-fits = subst (λ n. Fits n t′) going-cells (sound-fits (G .sound))
 
--- Playing stops: none is left over, or the text has no room for another line.
-pub going-stops : {file : List ℕ} {s : Session} {t : Tables} {start actions : ℕ} {text₀ : List ℕ} {now : Session} {t′ : Tables} {text : List ℕ} {at left used : ℕ}
-    → (left ≡ 0) ⊎ (length text₀ < used + room (cells s)) → Going file s t start actions text₀ now t′ text at left used
-    → Plays file s t start actions text₀ (record { session = now; at = at; left = left; used = used }) t′ text
-going-stops {s = s} {actions = actions} {text₀ = text₀} {left = left} {used = used} e G = record {
-  sound = G .sound;
-  wide = G .wide;
-  high = G .high;
-  long = G .long;
-  put = G .put;
-  place = G .place;
-  prints = G .prints;
-  stops = e;
-  goes-on = λ a b. ⊎-elim (λ m. ⊎-elim (λ z. omega (arith, z, m .0)) (λ z. absurd (omega (arith, z, m .1, a))) e) (λ m. m) (G .moved);
-}
+  -- What is used of the text is in it.
+  pub going-put : used ≤ length text₀
+  going-put = omega (arith, put-end (G .lines) (omega arith), G .lines .long)
+
+  -- The next action can be played where the text has room for the longest line.
+  pub going-ready : cells s ≤ length way → used + room (cells s) ≤ length text → Ready now t′ way text used
+  going-ready l m = record { sound = G .sound; way-room = omega (arith, l, going-cells); text-room = omega (arith, m, going-cells) }
+
+  -- One more action is played.
+  pub going-more : {t″ : Tables} {way′ text′ : List ℕ} {r : Turned} → 0 < left → Turns (actionAt file at) now t′ way text used r t″ way′ text′
+      → Going file s t way₀ start actions text₀ (r .session) t″ way′ text′ (at + 5) (left - 1) (r .used)
+  unfolding actionsFrom played leftBy wayLeft
+  going-more {t″} {way′} {text′} {r} l T = record {
+    done = G .done + 1;
+    all = omega (arith, G .all);
+    place = omega (arith, G .place);
+    sound = T .sound;
+    wide = T .wide ∙ G .wide;
+    high = T .high ∙ G .high;
+    after = T .after ∙ ap (λ (x : Turn). x .after) turn-is ∙ sym (ap (leftBy S) next ∙ left-more S before (a ∷ []));
+    shown =
+        T .shown ∙ ap (λ (x : Turn). written (x .shown) way) turn-is ∙ ap (written (turn (leftBy S before) a .shown)) (G .shown)
+        ∙ sym (ap (λ x. wayLeft S x way₀) next ∙ way-more S before (a ∷ []) way₀);
+    lines =
+        put-as (ap (λ (x : Turn). played S before ++ x .line) turn-is ∙ sym printed) refl (put-then (G .lines) (T .line));
+  }
+    where
+      S : Standing
+      S = stands s t
+
+      before : List Action
+      before = actionsFrom file start (G .done)
+
+      a : Action
+      a = actionAt file (start + 5 * G .done)
+
+      next : actionsFrom file start (G .done + 1) ≡ before ++ (a ∷ [])
+      next = actions-more file start (G .done) 1
+
+      turn-is : turn (stands now t′) (actionAt file at) ≡ turn (leftBy S before) a
+      turn-is = ap (λ x. turn x (actionAt file at)) (G .after) ∙ ap (λ k. turn (leftBy S before) (actionAt file k)) (G .place)
+
+      printed : played S (actionsFrom file start (G .done + 1)) ≡ played S before ++ turn (leftBy S before) a .line
+      printed = ap (played S) next ∙ played-more S before (a ∷ []) ∙ ap (λ (x : List ℕ). played S before ++ x) (append-nil (turn (leftBy S before) a .line))
+
+  -- Where no action is played, nothing is used of the text.
+  none-used : G .done ≡ 0 → used ≡ 0
+  unfolding actionsFrom played
+  none-used z = G .lines .end ∙ ap (λ k. 0 + length (played (stands s t) (actionsFrom file start k))) z
+
+  -- Playing stops: none is left over, or the text has no room for another line.
+  pub going-stops : (left ≡ 0) ⊎ (length text₀ < used + room (cells s)) → Plays file s t way₀ start actions text₀ (record { session = now; at = at; left = left; used = used }) t′ way text
+  going-stops e = record {
+    done = G .done;
+    all = G .all;
+    place = G .place;
+    sound = G .sound;
+    wide = G .wide;
+    high = G .high;
+    after = G .after;
+    shown = G .shown;
+    lines = G .lines;
+    stops = e;
+    goes-on = λ a b. at-least a b (ℕ-discrete (G .done) 0);
+  }
+    where
+      at-least : room (cells s) ≤ length text₀ → 0 < actions → Dec (G .done ≡ 0) → 0 < G .done
+      at-least a b (no n) = omega (arith, n)
+      at-least a b (yes z) = absurd (⊎-elim (λ y. omega (arith, y, z, b, G .all)) (λ y. omega (arith, y, a, none-used z)) e)
 
 -- Whether an action is left over and the text has room for the longest line, once one is left over.
 pub room-decided : (n left used bytes : ℕ) → (left ≡ 0 → ⊥) → used ≤ bytes → Decides (leb (64 + 6 * n) (bytes - used)) ((0 < left) × (used + room n ≤ bytes))
@@ -354,8 +349,3 @@ room-over n left used bytes none = at (ℕ-discrete left 0) (decLt bytes (used +
     at (yes e) d = inl e
     at (no n) (yes l) = inr l
     at (no n) (no m) = absurd (none (omega (arith, n), omega (arith, m)))
-
--- The tables keep their lengths.
-pub going-fits : {file : List ℕ} {s : Session} {t : Tables} {start actions : ℕ} {text₀ : List ℕ} {now : Session} {t′ : Tables} {text : List ℕ} {at left used : ℕ}
-    → Going file s t start actions text₀ now t′ text at left used → Fits (cells s) t′
-going-fits {s = s} {now = now} {t′ = t′} G = subst (λ w. Fits (s .height * w) t′) (G .wide) (subst (λ h. Fits (h * now .width) t′) (G .high) (sound-fits (G .sound)))

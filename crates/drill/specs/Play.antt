@@ -12,6 +12,7 @@ use Rattle.plan.specs.Cells.{entered}
 use Rattle.plan.specs.Costs.{Plan, cells, byte, withByte}
 use Rattle.plan.specs.Grid.{graphOf}
 use Rattle.answer.specs.Answer.{answerOf, cellsOf}
+use Rattle.search.specs.Promise.{written}
 use Rattle.drill_file.specs.declared.Action.{Action}
 use Rattle.drill_file.specs.declared.Action.the-variants.{Change, Hunter, Target, Search, Bad}
 use Rattle.lines.specs.Text.{refusedLine, line}
@@ -33,21 +34,22 @@ changed S u d cost =
     (method-session.moveChanged (method-session.huntOf (graphOf (withByte (S .plan) u d cost)) (S .session)) (S .tables)
     (entered (S .plan .width) u d) (opposite d + 1) u (byte (S .plan) u d) cost)
 
--- What an action leaves, and the line that it prints, if any.
+-- What an action leaves, the cells that it writes into the way list, and the line that it prints, if any.
 pub record Turn : Type 0 where
   pub after : Standing
+  pub shown : List ℕ
   pub line : List ℕ
 
--- An accepted action prints nothing; "a refused action prints `refused` and the number on a line and the rest goes on".
+-- An accepted action writes no cells and prints nothing; "a refused action prints `refused` and the number on a line and the rest goes on".
 abbrev pub accepted : Standing → Turn
-accepted S = record { after = S; line = [] }
+accepted S = record { after = S; shown = []; line = [] }
 
 abbrev pub refused : Standing → ℕ → Turn
-refused S number = record { after = S; line = refusedLine number }
+refused S number = record { after = S; shown = []; line = refusedLine number }
 
--- A search prints its answer.
+-- A search writes the cells of its answer and prints its line.
 abbrev pub searched : Plan → method-session.Outcome → Turn
-searched p o = record { after = standing p (o .session) (o .tables); line = line (answerOf (o .answer)) (cellsOf (o .answer)) }
+searched p o = record { after = standing p (o .session) (o .tables); shown = cellsOf (o .answer); line = line (answerOf (o .answer)) (cellsOf (o .answer)) }
 
 -- One action. A badly formed one is in no file that is played.
 unfoldable pub turn : Standing → Action → Turn
@@ -66,6 +68,11 @@ played S (a ∷ l) = let t = turn S a in t .line ++ played (t .after) l
 unfoldable pub leftBy : Standing → List Action → Standing
 leftBy S [] = S
 leftBy S (a ∷ l) = leftBy (turn S a .after) l
+
+-- What they leave in the way list.
+unfoldable pub wayLeft : Standing → List Action → List ℕ → List ℕ
+wayLeft S [] way = way
+wayLeft S (a ∷ l) way = let t = turn S a in wayLeft (t .after) l (written (t .shown) way)
 
 -- A step of a search: what was done on which cell, its g and rhs before, and what its g becomes.
 pub record Taken : Type 0 where

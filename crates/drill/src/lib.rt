@@ -7,14 +7,14 @@ use session;
 use tables::Session;
 ghost use mathlib.Core.Path.{_≡_};
 ghost use Prim.Native.Nat.{_+_, _≤_, _<_};
-ghost use lib.ListN.{length, take};
+ghost use lib.ListN.{length};
 ghost use Rattle.decide.specs.Decides.{Decides};
 ghost use Rattle.plan.specs.Cells.{Size};
 ghost use Rattle.tables.specs.Lent.{cells, given, before, after};
 ghost use Rattle.lines.specs.Text.{room};
 ghost use Rattle.lines.specs.Put.{Put};
 ghost use Rattle.drill_file.specs.declared.Action.the-variants.{Change, Search};
-ghost use Rattle.drill.specs.Promises.{told, Ready, Turns, Playing, Plays, Opening, Begins};
+ghost use Rattle.drill.specs.Promises.{told, Ready, Turns};
 
 // What an action leaves: the record, and how much of the text is used.
 pub struct Turned {
@@ -28,51 +28,6 @@ pub struct Played {
     pub at: usize,
     pub left: usize,
     pub used: usize,
-}
-
-// Copies the file's first bytes into the plan.
-fn copy_plan(file: &[u8], plan: &mut [u8])
-    requires { ⌜ length (now plan) ≤ length (now file) ⌝ }
-    ensures { λ _. ⌜ now (plan .exit) ≡ take (length (now (plan .entry))) (now (file .entry)) ⌝ }
-{
-    let mut i = 0;
-    while i < plan.len() {
-        plan[i] = file[i];
-        i += 1;
-    }
-}
-
-// Opens a file of right form.
-pub fn begin(
-    file: &[u8],
-    plan: &mut [u8],
-    g: &mut [u32],
-    rhs: &mut [u32],
-    parent: &mut [u8],
-    k1: &mut [u32],
-    k2: &mut [u32],
-    place: &mut [u16],
-    list: &mut [u16],
-) -> session::Reply
-    requires { ⌜ Opening (now file) (given plan g rhs parent k1 k2 place list) ⌝ }
-    ensures { λ r. ⌜ Begins (now (file .entry)) r (after plan g rhs parent k1 k2 place list) ⌝ }
-{
-    copy_plan(file, plan);
-    let t = drill_file::trailer_of(file);
-    session::open(
-        t.width,
-        t.height,
-        t.hunter,
-        t.target,
-        plan,
-        g,
-        rhs,
-        parent,
-        k1,
-        k2,
-        place,
-        list,
-    )
 }
 
 // Puts the line of a call's reply.
@@ -108,7 +63,7 @@ fn play_change(
     used: usize,
 ) -> Turned
     requires { ⌜ Ready s (given plan g rhs parent k1 k2 place list) (now way) (now text) used ⌝ }
-    ensures { λ r. ⌜ Turns (Change u d cost) s (before plan g rhs parent k1 k2 place list) (now (text .entry)) used r (after plan g rhs parent k1 k2 place list) (now (text .exit)) ⌝ }
+    ensures { λ r. ⌜ Turns (Change u d cost) s (before plan g rhs parent k1 k2 place list) (now (way .entry)) (now (text .entry)) used r (after plan g rhs parent k1 k2 place list) (now (way .entry)) (now (text .exit)) ⌝ }
 {
     let reply = change::change_sound(s, plan, g, rhs, parent, k1, k2, place, list, u, d, cost);
     put_reply(reply, text, used)
@@ -130,7 +85,7 @@ fn play_search(
     used: usize,
 ) -> Turned
     requires { ⌜ Ready s (given plan g rhs parent k1 k2 place list) (now way) (now text) used ⌝ }
-    ensures { λ r. ⌜ Turns Search s (before plan g rhs parent k1 k2 place list) (now (text .entry)) used r (after plan g rhs parent k1 k2 place list) (now (text .exit)) ⌝ }
+    ensures { λ r. ⌜ Turns Search s (before plan g rhs parent k1 k2 place list) (now (way .entry)) (now (text .entry)) used r (after plan g rhs parent k1 k2 place list) (now (way .exit)) (now (text .exit)) ⌝ }
 {
     let found = search::search_sound(s, plan, g, rhs, parent, k1, k2, place, list, way);
     let session = found.session;
@@ -140,7 +95,7 @@ fn play_search(
 }
 
 // Plays an action.
-fn play_action(
+pub fn play_action(
     action: drill_file::Action,
     s: Session,
     plan: &mut [u8],
@@ -156,7 +111,7 @@ fn play_action(
     used: usize,
 ) -> Turned
     requires { ⌜ Ready s (given plan g rhs parent k1 k2 place list) (now way) (now text) used ⌝ }
-    ensures { λ r. ⌜ Turns action s (before plan g rhs parent k1 k2 place list) (now (text .entry)) used r (after plan g rhs parent k1 k2 place list) (now (text .exit)) ⌝ }
+    ensures { λ r. ⌜ Turns action s (before plan g rhs parent k1 k2 place list) (now (way .entry)) (now (text .entry)) used r (after plan g rhs parent k1 k2 place list) (now (way .exit)) (now (text .exit)) ⌝ }
 {
     match action {
         drill_file::Action::Change(u, d, cost) => {
@@ -201,7 +156,7 @@ fn play_action(
 }
 
 // Is an action left over, and has the text room for the longest line?
-fn goes_on(s: Session, left: usize, used: usize, bytes: usize) -> bool
+pub fn goes_on(s: Session, left: usize, used: usize, bytes: usize) -> bool
     requires { ⌜ Size (s .width) (s .height) × (used ≤ bytes) ⌝ }
     ensures { λ r. ⌜ Decides r ((0 < left) × (used + room (cells s) ≤ bytes)) ⌝ }
 {
@@ -210,57 +165,4 @@ fn goes_on(s: Session, left: usize, used: usize, bytes: usize) -> bool
     }
     let longest = 64 + 6 * (s.height * s.width);
     longest <= bytes - used
-}
-
-// Plays the actions that are left over, as long as the text has room for the longest line. One reader goes through them.
-pub fn play(
-    file: &[u8],
-    start: usize,
-    actions: usize,
-    s: Session,
-    plan: &mut [u8],
-    g: &mut [u32],
-    rhs: &mut [u32],
-    parent: &mut [u8],
-    k1: &mut [u32],
-    k2: &mut [u32],
-    place: &mut [u16],
-    list: &mut [u16],
-    way: &mut [u16],
-    text: &mut [u8],
-) -> Played
-    requires { ⌜ Playing (now file) s (given plan g rhs parent k1 k2 place list) (now way) start actions ⌝ }
-    ensures { λ r. ⌜ Plays (now (file .entry)) s (before plan g rhs parent k1 k2 place list) start actions (now (text .entry)) r (after plan g rhs parent k1 k2 place list) (now (text .exit)) ⌝ }
-{
-    let mut r = drill_file::reading(file, start);
-    let mut turned = Turned {
-        session: s,
-        used: 0,
-    };
-    let mut left = actions;
-    while goes_on(turned.session, left, turned.used, text.len()) {
-        turned = play_action(
-            drill_file::next(r),
-            turned.session,
-            plan,
-            g,
-            rhs,
-            parent,
-            k1,
-            k2,
-            place,
-            list,
-            way,
-            text,
-            turned.used,
-        );
-        r = drill_file::moved(r);
-        left -= 1;
-    }
-    Played {
-        session: turned.session,
-        at: r.at,
-        left,
-        used: turned.used,
-    }
 }

@@ -98,3 +98,7 @@ formNumber file =
     8)
     1)
     8
+
+-- The number of cells that a file's trailer tells: 0 where there is no trailer, or no right size in it.
+unfoldable pub cellsIn : List ℕ → ℕ
+cellsIn file = choose (decLe 12 (length file)) (choose (isSize (trailerOf file .width) (trailerOf file .height)) (cells (trailerOf file)) 0) 0
