@@ -59,10 +59,12 @@ pub allocates : {M : Type 1} {𝓤 : URA M} {H : Heap 𝓤} {A : Atoms 𝓤} {K 
 allocates t [] Γ Kt k = alloc0 t $ k tt
 allocates t (local τ h ∷ ls) Γ Kt k = alloc1 t (λ b. allocates t ls (‵ (froom τ b zero) ∷ ‵ (fdies τ b) ∷ Γ) (λ E. Kt ((τ, b) ∷ E)) (λ bs. k (b, bs)))
 
-pub storing : {M : Type 1} {𝓤 : URA M} {H : Heap 𝓤} {A : Atoms 𝓤} {K : Type 0} {W : Given 𝓤 H A} {Γ : List (Item 𝓤)} → K → (E : Env 𝓤 H) (vs : List Val) (g : Goal 𝓤 H) → Step K W Γ (params′ E vs g) Γ (prop (params 𝓤 H E vs (aim 𝓤 H g)))
+pub storing : {M : Type 1} {𝓤 : URA M} {H : Heap 𝓤} {A : Atoms 𝓤} {K : Type 0} {W : Given 𝓤 H A} {Γ : List (Item 𝓤)} → K → (E : Env 𝓤 H) (vs : List Val) (g : Goal 𝓤 H) → Step K W Γ (params′ E vs g) Γ
+    (prop (params 𝓤 H E vs (aim 𝓤 H g)))
 storing t E vs g = step (λ s. record { prf = s .prf })
 
-pub looping : {M : Type 1} {𝓤 : URA M} {H : Heap 𝓤} {A : Atoms 𝓤} {K : Type 0} {W : Given 𝓤 H A} {X : Type 0} → K → (𝓣 : Tables 𝓤 H) (≺ : X → X → Type 0) → WellFounded ≺ → (I : X → List (Item 𝓤)) {E : Env 𝓤 H} {b after : Body} {q : Post 𝓤 H}
+pub looping : {M : Type 1} {𝓤 : URA M} {H : Heap 𝓤} {A : Atoms 𝓤} {K : Type 0} {W : Given 𝓤 H A} {X : Type 0} → K → (𝓣 : Tables 𝓤 H) (≺ : X → X → Type 0) → WellFounded ≺ → (I : X → List (Item 𝓤)) {E : Env 𝓤 H}
+    {b after : Body} {q : Post 𝓤 H}
     → ((t : X) → Seq K W (I t) (runs (𝓣 .C) (𝓣 .Λ) E b (anyQ (afterTurn 𝓤 H (Below 𝓤 H A ≺ I t) (afterBlock 𝓤 H (afterSeq 𝓤 H (Wp 𝓤 H (𝓣 .C) (𝓣 .Λ) E after (post 𝓤 H q)) (post 𝓤 H q)))))))
     → (t : X) → Seq K W (I t) (runs (𝓣 .C) (𝓣 .Λ) E (seq (block (loop b)) after) q)
 looping k 𝓣 ≺ wf I turn t = first k $ blocks k $ loops k 𝓣 ≺ wf I turn t

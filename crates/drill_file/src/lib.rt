@@ -122,6 +122,13 @@ pub fn moved<'a>(r: Reader<'a>) -> Reader<'a>
     }
 }
 
+// The reader at another place of its file.
+pub fn moved_to<'a>(r: Reader<'a>, at: usize) -> Reader<'a>
+    ensures { λ q. ⌜ (q .file ≡ r .entry .file) × (q .at ≡ at) ⌝ }
+{
+    Reader { file: r.file, at }
+}
+
 // Is an action badly formed?
 fn is_bad(action: Action) -> bool
     ensures { λ r. ⌜ r ≡ isBad action ⌝ }
