@@ -1,0 +1,4 @@
+pub mod LentAgain
+pub mod Lending
+pub mod Sharing
+pub mod TenTables

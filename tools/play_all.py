@@ -1,0 +1,496 @@
+"""Writes crates/printing/proofs/play_all/Proof.antt, the walk of `printing::play_all`, from play_all.tmpl. Run it again by `tools/walks` after a change."""
+from ten_tables import NAMES, ROWS, TEN, WIDTHS, life, name
+from walk import Walk, chain, filled, nest, proj, sub
+
+# ---- the locals, as `rt mir printing` shows them: 0 the result; 1 what was read, 2 how much of it is the file, 3 the file, 4 the place and 5 the number of the actions, 6 the session, 7 what is printed, and 8 to 17 the tables passed;
+# then the reader, the session, the actions left over, what is written, what was played, the test, the reader passed on, each table lent again (pointer and slice), the text shared (pointer and slice), the reader moved on
+TABLE = [8 + i for i in TEN]
+READER, SESSION, LEFT, WRITTEN, PLAYED, TEST, PASSED_ON = range(18, 25)
+POINTER = [25 + 2 * i for i in TEN]
+AGAIN = [26 + 2 * i for i in TEN]
+TEXT_POINTER, TEXT, MOVED = 45, 46, 47
+N = 48
+
+cell = lambda i: f'c{i}'
+place = lambda i: 'l' + sub(i)
+TYPES = {0: 'WR′.mir', 1: '(shared (named 0))', 2: 'word', 3: '(shared (named 1))', 4: 'word', 5: 'word', 6: 'SS′.mir', 7: 'word', READER: 'reader', SESSION: 'SS′.mir', LEFT: 'word', WRITTEN: 'WR′.mir', TEST: 'tyBool', PLAYED: 'PL′.mir',
+         PASSED_ON: 'reader', TEXT_POINTER: '(tyRef erased imm (tyInt w8))', TEXT: '(shared erased)', MOVED: 'reader'}
+for i in TEN:
+    TYPES[TABLE[i]] = f'(lent (named {i + 2}) {WIDTHS[i]})'
+    TYPES[POINTER[i]] = f'(tyRef erased mut (tyInt {WIDTHS[i]}))'
+    TYPES[AGAIN[i]] = f'(lent erased {WIDTHS[i]})'
+slice_of = lambda i: f'sliceVal (ten .{NAMES[i]} .ptr) (length (lists₀ .{NAMES[i]}))'
+VALUES = {1: 'v input', 2: 'vint w64 got', 3: 'v s', 4: 'vint w64 start', 5: 'vint w64 actions', 6: 'SS′.lowered st', 7: 'vint w64 printed', READER: 'mach s (x .at)', SESSION: 'SS′.lowered (x .session)',
+          LEFT: 'vint w64 (x .left)', WRITTEN: 'WR′.lowered (x .written)', TEST: 'vbool (ltb 0 (x .left))', PLAYED: 'PL′.lowered (y .played)'}
+for i in TEN:
+    VALUES[TABLE[i]] = slice_of(i)
+
+# ---- what stands in the context beside the locals
+READS = '𝓤 H A W mem run κ₀ q₀ s'
+TOK = '(‵ (flft κ₀ q₀) ⊛ ‵ ftrue)'
+TOK_READ = '(‵ (flft κᵢ qᵢ) ⊛ ‵ ftrue)'
+OWN = f'‵ (Own {READS})'
+HELD = '(κs .1 .1) (qs .1 .1) ten'
+BESIDE = ['tok', 'own', 'tok-read', 'own-read', 'tabs', 'deaths']
+ORDER = BESIDE + [cell(i) for i in reversed(range(N))]
+PASSED = set(range(1, 18))
+TURNING = {cell(i) for i in PASSED | {READER, SESSION, LEFT, WRITTEN}}
+
+
+def context(full, lists=None, first=None):
+    r = list(first) if first else [TOK, OWN, TOK_READ, '‵ OwnRead', f'Tables-at ({lists} .lists)', 'Deaths']
+    for i in reversed(range(N)):
+        r.append(f'‵ (fat fullShare {TYPES[i]} {place(i)} 0 ({VALUES[i]}))' if cell(i) in full else f'‵ (froom {TYPES[i]} {place(i)} 0)')
+    return ' ∷ '.join(r) + ' ∷ []'
+
+
+def owned_word(x, fits):
+    return f'owned ! usize (Is usize) (uint-makes 𝓤 H A W w64) {x} _ (refl, {fits})'
+
+
+def owned_session(x, fits):
+    return f'owned ! SS.the-row (Is SS.the-row) (LL.makes SS.the-type SS′.the-plain 𝓤 H A) {x} _ {fits}'
+
+
+# ---- what is passed, and to `play` and `print`
+ALIVE = chain([f'‵ (flft ({proj("κs", i)}) ({proj("qs", i)}))' for i in range(12)] + ['‵ ftrue'])
+ENTRY = '(ShrSlice (named 0) (κs .0) u8 ∷ usize ∷ ShrSlice (named 1) (κs .1 .0) u8 ∷ usize ∷ usize ∷ SS.the-row ∷ usize ∷ ' + ' ∷ '.join(f'MutSlice (named {i + 2}) ({proj("κs", i + 2)}) {ROWS[i]}' for i in TEN) + ' ∷ [])'
+VALUES_PASSED = ['v input', 'vint w64 got', 'v s', 'vint w64 start', 'vint w64 actions', 'SS′.lowered st', 'vint w64 printed'] + [slice_of(i) for i in TEN]
+ARGUMENTS = '(' + ' ∷ '.join(VALUES_PASSED) + ' ∷ [])'
+AT = nest([f'{x} ∷ []' for x in VALUES_PASSED])
+again = lambda i: f'record {{ ptr = ten .{NAMES[i]} .ptr; name = N .{name(i)}; now = x .lists .{NAMES[i]} }}'
+KS = nest(['κ₀'] + [f'(N .{life(i)} ∷ [])' for i in TEN])
+QS = nest(['q₀'] + ['fullShare'] * 10)
+TO = nest(['made s (x .at)', 'x .left', 'x .session'] + [again(i) for i in TEN])
+TO_VALUES = nest(['mach s (x .at) ∷ []', 'vint w64 (x .left) ∷ []', 'SS′.lowered (x .session) ∷ []'] + [f'{slice_of(i)} ∷ []' for i in TEN])
+ASKED = f'(fsep (Reads {READS} .own (made s (x .at)) (mach s (x .at) ∷ [])) (fsep (usize .own (x .left) (vint w64 (x .left) ∷ [])) (fsep (SS.the-row .own (x .session) (SS′.lowered (x .session) ∷ [])) (Outs {HELD} N (x .lists) ftrue))))'
+LISTS_OF = 'record { ' + ' '.join(f'{NAMES[i]} = {proj("ws", 3 + i)};' for i in TEN) + ' }'
+OF_WS = 'left-lists x N ws'
+KS_PRINT = '(κᵢ, ((ν ∷ []), tt))'
+QS_PRINT = '(qᵢ, (fullShare, tt))'
+SHARED = 'record { ptr = ten .text .ptr; name = γ; now = y .lists .text }'
+TO_PRINT = nest(['input', 'got', 'x .written .bytes', SHARED, 'y .played .used'])
+TO_PRINT_VALUES = nest(['v input ∷ []', 'vint w64 got ∷ []', 'vint w64 (x .written .bytes) ∷ []', f'{slice_of(9)} ∷ []', 'vint w64 (y .played .used) ∷ []'])
+word = lambda x: f'(usize .own {x} (vint w64 {x} ∷ []))'
+ASKED_PRINT = f'(fsep OwnRead (fsep {word("got")} (fsep {word("(x .written .bytes)")} (fsep (Text {HELD} ν γ (y .lists)) (fsep {word("(y .played .used)")} ftrue)))))'
+ALIVE_PRINT = '(‵ (flft κᵢ qᵢ) ⊛ (‵ (flft (ν ∷ []) fullShare) ⊛ ‵ ftrue))'
+HANDED = 'Handed (x .written .bytes) (y .played .used)'
+
+
+def plays(file, s, t, at, left, r, y):
+    return f'Plays {file} {s} (tablesIn {t}) ({t} .way) {at} {left} ({t} .text) {r} (tablesIn {y}) ({y} .way) ({y} .text)'
+
+
+def holds_all():
+    w = Walk(8)
+    w.raw(f'qed W ({ALIVE} ∷ ‵ (owns {ENTRY} a at) ∷ []) ∵')
+    w.ctx = ['alive', 'owns']
+    w.split('alive', 'tok-read', 'alive')
+    w.split('alive', 'tok', 'toks')
+    for t in ('tok', 'tok-read'):
+        w.step('nothing !')
+        w.push('none')
+        w.join(t, 'none', t)
+    for n in ('own-read', 'got', 'own', 'start', 'actions', 'session', 'printed'):
+        w.fsplit('owns', n, 'owns')
+        if n not in ('own-read', 'own'):
+            w.drop(n)
+    w.join('tok', 'own', 'z')
+    w.step('frame !')
+    w.pop()
+    w.join('tok-read', 'own-read', 'z')
+    w.step('frame !')
+    w.pop()
+    w.move('toks', 'owns')
+    w.raw('done !')
+    return w.text()
+
+
+def lends_all():
+    w = Walk(8)
+    w.raw(f'qed W ({TOK} ∷ {OWN} ∷ Tables-at (x .lists) ∷ []) ∵ updating ! $')
+    w.ctx = ['tok', 'own', 'tabs']
+    w.move('tabs')
+    w.step('nothing !')
+    w.push('none')
+    w.move('tabs', 'none')
+    w.takes(f'use2 W (later (some (λ (N : Names). (Alive {HELD} 𝓤 N ⊛ ‵ (Outs {HELD} N (x .lists) ftrue)) ⊛ ‵ (Kept-of x N)))) (lends-ten {HELD} 𝓤 H A W (x .lists) ftrue (x .long))', 2, 'z')
+    w.step('await ! tt')
+    w.opens('pick ! (λ N.')
+    w.split('z', 'z', 'backs')
+    w.split('z', 'alive', 'asked')
+    w.step('at-once !')
+    w.step(f'show ! (λ (N : Names). sep 𝓤 (Play 𝓤 H A mem run .pre (to-play x N)) (sep 𝓤 (mean 𝓤 H A ({OWN})) (sem 𝓤 H A (Kept-of x N)))) N')
+    w.move('asked')
+    w.step(owned_session('(x .session)', '(x .session-is)'))
+    w.takes('fjoin !', 0)
+    w.step(owned_word('(x .left)', 'x .left-fits'))
+    w.takes('fjoin !', 0)
+    w.move('own')
+    w.takes(f'use1 W (‵ (Reads {READS} .own (made s (x .at)) (mach s (x .at) ∷ [])) ⊛ {OWN}) (holds {READS} (x .at) (x .at-fits))', 1, 'z')
+    w.split('z', 'reader', 'own')
+    w.fjoin('reader', 'asked', 'asked')
+    w.split('tok', 'tok', 'none')
+    w.drop('none')
+    w.join('tok', 'alive', 'alive')
+    w.move('alive', 'asked')
+    w.takes('use2 W (raw (Play 𝓤 H A mem run .pre (to-play x N))) (asks-play x N m)', 2, 'pre')
+    w.move('pre', 'own', 'backs')
+    w.raw('done !')
+    return w.text()
+
+
+def regains_all():
+    w = Walk(8)
+    w.raw('qed W (raw (Play 𝓤 H A mem run .post (to-play x N) u) ∷ ‵ (Kept-of x N) ∷ []) ∵ updating ! $')
+    w.ctx = ['post', 'backs']
+    w.step(f'use1 W (later (some (λ (t : Played). ((‵ (flft κ₀ q₀) ⊛ Alive {HELD} 𝓤 N) ⊛ ‵ (PL.the-row .own t (u ∷ []))) ⊛ raw (ensured 𝓤 H A play.ended (play.clauses 𝓤 H A mem run) {KS} {TO} tt t)))) (id⊢ 𝓤 _)')
+    w.step('await ! tt')
+    w.opens('pick ! (λ t.')
+    w.split('post', 'given', 'ensured')
+    w.move('ensured')
+    said = plays('(now s)', '(x .session)', '(x .lists)', '(x .at)', '(x .left)', 't', f'({OF_WS})')
+    w.step(f'use1 W (some (λ (ws : Lasts play.ended {KS} {TO}). ‵ (lasts play.ended {KS} {TO} ws) ⊛ raw (fact 𝓤 ({said})))) (id⊢ 𝓤 _)')
+    w.opens('pick ! (λ ws.')
+    w.split('ensured', 'lasts', 'fact')
+    w.move('fact')
+    w.opens(f'heard ! ({said}) (λ plays.')
+    w.pop()
+    for n in ('reader', 'left', 'session'):
+        w.fsplit('lasts', n, 'lasts')
+        w.drop(n)
+    w.split('given', 'alive', 'result')
+    w.move('result')
+    w.opens('peeks ! PL.the-row (Is PL.the-row) (shows 𝓤 H A PL.the-row) t (u ∷ []) (λ is.')
+    w.drop('result')
+    w.split('alive', 'tok', 'alive')
+    w.move('alive', 'lasts', 'backs')
+    w.takes(f'use3 W (later (given (AsLong ({OF_WS}) (x .lists)) (Tables-at ({OF_WS})))) (regains-ten {HELD} 𝓤 H A W N (x .lists) ({OF_WS}) ftrue rooms (x .long))', 3, 'tabs')
+    w.step('await ! tt')
+    w.opens('learn ! (λ long.')
+    w.step('at-once !')
+    w.step(f'show ! (λ (y : Y x u). sep 𝓤 (mean 𝓤 H A {TOK}) (mean 𝓤 H A (Tables-at (y .lists)))) (record {{ played = t; lists = {OF_WS}; long = long; told = told-played t u is; is = is-played t u is; plays = plays }})')
+    w.step('nothing !')
+    w.push('none')
+    w.join('tok', 'none', 'tok')
+    w.move('tok', 'tabs')
+    w.raw('done !')
+    return w.text()
+
+
+def shows_piece():
+    w = Walk(10)
+    w.raw(f'qed W ({TOK_READ} ∷ ‵ OwnRead ∷ Tables-at (y .lists) ∷ []) ∵ updating ! $')
+    w.ctx = ['tok', 'own', 'tabs']
+    w.move('tabs')
+    w.takes(f'use1 W (later (some (λ (ν : ℕ). some (λ (γ : GName). ‵ (flft (ν ∷ []) fullShare) ⊛ (‵ (Text {HELD} ν γ (y .lists)) ⊛ ‵ (Hides ν)))))) (shows-text {HELD} 𝓤 H A W (y .lists) (long-since x m y))', 1, 'z')
+    w.step('await ! tt')
+    w.opens('pick ! (λ ν.')
+    w.opens('pick ! (λ γ.')
+    w.split('z', 'alive', 'z')
+    w.split('z', 'text', 'hidden')
+    w.step('at-once !')
+    w.step('show ! (λ (ν : ℕ). ex 𝓤 (λ (γ : GName). sep 𝓤 (Print 𝓤 H A mem run .pre (to-print ν γ)) (sep 𝓤 (sem 𝓤 H A OwnRead) (sem 𝓤 H A (Hides ν))))) ν')
+    w.step('show ! (λ (γ : GName). sep 𝓤 (Print 𝓤 H A mem run .pre (to-print ν γ)) (sep 𝓤 (sem 𝓤 H A OwnRead) (sem 𝓤 H A (Hides ν)))) γ')
+    w.step('nothing !')
+    w.push('asked')
+    w.step(owned_word('(y .played .used)', 'used-fits x m y'))
+    w.takes('fjoin !', 0)
+    w.fjoin('text', 'asked', 'asked')
+    w.step(owned_word('(x .written .bytes)', 'bytes-fit x'))
+    w.takes('fjoin !', 0)
+    w.step(owned_word('got', 'got-fits'))
+    w.takes('fjoin !', 0)
+    w.move('own')
+    w.takes('use1 W (‵ OwnRead ⊛ ‵ OwnRead) (shr-slice-copy 𝓤 H A W (named 0) κᵢ u8 .twice input (v input ∷ []))', 1, 'z')
+    w.split('z', 'copy', 'own')
+    w.fjoin('copy', 'asked', 'asked')
+    w.split('tok', 'tok', 'none')
+    w.join('alive', 'none', 'alive')
+    w.join('tok', 'alive', 'alive')
+    w.move('alive', 'asked')
+    w.takes('use2 W (raw (Print 𝓤 H A mem run .pre (to-print ν γ))) (asks-print ν γ)', 2, 'pre')
+    w.move('pre', 'own', 'hidden')
+    w.raw('done !')
+    return w.text()
+
+
+def hides_piece():
+    w = Walk(10)
+    w.raw('qed W (raw (Print 𝓤 H A mem run .post (to-print ν γ) k) ∷ ‵ (Hides ν) ∷ []) ∵ updating ! $')
+    w.ctx = ['post', 'hidden']
+    w.step(f'use1 W (later (some (λ (t : Written). ({ALIVE_PRINT} ⊛ ‵ (WR.the-row .own t (k ∷ []))) ⊛ raw (ensured 𝓤 H A print.ended (print.clauses 𝓤 H A mem run) {KS_PRINT} {TO_PRINT} tt t)))) (id⊢ 𝓤 _)')
+    w.step('await ! tt')
+    w.opens('pick ! (λ t.')
+    w.split('post', 'given', 'ensured')
+    w.move('ensured')
+    said = '(t .failed ≡ true) ⊎ (t .bytes ≡ x .written .bytes + y .played .used)'
+    w.step(f'use1 W (some (λ (ws : Lasts print.ended {KS_PRINT} {TO_PRINT}). ‵ (lasts print.ended {KS_PRINT} {TO_PRINT} ws) ⊛ raw (fact 𝓤 ({said})))) (id⊢ 𝓤 _)')
+    w.opens('pick ! (λ ws.')
+    w.split('ensured', 'lasts', 'fact')
+    w.move('fact')
+    w.opens(f'heard ! ({said}) (λ outcome.')
+    w.pop()
+    w.drop('lasts')
+    w.split('given', 'alive', 'result')
+    w.move('result')
+    w.opens('peeks ! WR.the-row (Is WR.the-row) (shows 𝓤 H A WR.the-row) t (k ∷ []) (λ is.')
+    w.drop('result')
+    w.split('alive', 'tok', 'alive')
+    w.split('alive', 'alive', 'none')
+    w.move('alive', 'hidden')
+    w.takes(f'use2 W (later (Tables-at (y .lists))) (hides-text {HELD} 𝓤 H A W ν (y .lists) rooms (long-since x m y))', 2, 'tabs')
+    w.step('await ! tt')
+    w.step('at-once !')
+    w.step(f'show ! (λ (z : {HANDED} k). sep 𝓤 (mean 𝓤 H A {TOK_READ}) (mean 𝓤 H A (Tables-at (y .lists)))) (record {{ written = t; told = told-written t k is; is = is-written t k is; outcome = outcome }})')
+    w.join('tok', 'none', 'tok')
+    w.move('tok', 'tabs')
+    w.raw('done !')
+    return w.text()
+
+
+def exits():
+    w = Walk(8)
+    w.raw(f'qed W ({TOK} ∷ {OWN} ∷ {TOK_READ} ∷ ‵ OwnRead ∷ Tables-at (x .lists) ∷ []) ∵')
+    w.ctx = ['tok', 'own', 'tok-read', 'own-read', 'tabs']
+    ws = nest(['tt'] * 7 + [f'x .lists .{n}' for n in NAMES])
+    fit = nest(['tt'] * 7 + [f'x .long .{n}' for n in NAMES])
+    w.step(f'suffices ! _ (ends-at 𝓤 H A play-all.ended stayed (play-all.clauses 𝓤 H A mem run) W ((κs, qs, tt, a, at), tt) (WR′.lowered (x .written)) (x .written) {ws} {fit})')
+    w.step('says ! (ends-here x failed)')
+    w.split('tabs', 'toks', 'mines')
+    for t in ('tok', 'tok-read'):
+        w.split(t, t, 'none')
+        w.drop('none')
+    w.join('tok', 'toks', 'toks')
+    w.join('tok-read', 'toks', 'alive')
+    w.step('frame !')
+    w.pop()
+    w.move('mines')
+    w.step(owned_word('printed', 'printed-fits'))
+    w.takes('fjoin !', 0)
+    w.step(owned_session('st', 'st-is'))
+    w.takes('fjoin !', 0)
+    w.step(owned_word('actions', 'actions-fits'))
+    w.takes('fjoin !', 0)
+    w.step(owned_word('start', 'start-fits'))
+    w.takes('fjoin !', 0)
+    w.fjoin('own', 'mines', 'mines')
+    w.step(owned_word('got', 'got-fits'))
+    w.takes('fjoin !', 0)
+    w.fjoin('own-read', 'mines', 'mines')
+    w.step('frame !')
+    w.pop()
+    w.step('owned ! WR.the-row (Is WR.the-row) (LL.makes WR.the-type WR′.the-plain 𝓤 H A) (x .written) _ (x .written-is)')
+    w.raw('done !')
+    return w.text()
+
+
+def reads(w, goes, contract, known, to, operands, result):
+    """A call of a reader's function: the token and what the file owns give what it asks, and what the file owns is kept."""
+    w.move('tok', 'own')
+    w.takes(f'use2 W (raw ({contract} 𝓤 H A mem run .pre {to}) ⊛ {OWN}) ({goes})', 2, 'z')
+    w.split('z', 'pre', 'own')
+    w.opens(f'calls-at ! fm ({contract} 𝓤 H A mem run) {known} {to} {w.operands(operands())} (λ {result}.')
+    w.pop()
+    w.push('post')
+
+
+def turn():
+    w = Walk(10)
+    w.ctx, w.full = list(ORDER), set(TURNING)
+    w.raw('qed W (Inv x) ∵ exec ! C Λ Env-of turn-1 (Q x) $')
+    w.assign(cell(TEST), f'(bin ! (lit ! tt) {w.load(cell(LEFT))} tt)', '(tt, tt)')
+    w.raw(f'whiles ! (ltb 0 (x .left)) {w.load(cell(TEST))}')
+    w.raw('(λ held. by ! (plays-piece x (some-left x held)))')
+    w.raw('(λ failed. by ! (leaves x failed))')
+    return w.text()
+
+
+def body():
+    w = Walk(10)
+    w.ctx, w.full = list(ORDER), TURNING | {cell(TEST)}
+    w.raw('qed W (Mid x) ∵ exec ! C Λ Env-of (rest (rest turn-1)) (Q x) $')
+    w.assign(cell(PASSED_ON), f'(of-opd ! {w.load(cell(READER))})', f'(typed {READS} p (x .at) (x .at-fits))')
+    w.note('the ten tables are lent again')
+    for i in TEN:
+        t = cell(TABLE[i])
+        w.assign(cell(POINTER[i]), f'(addr ! (from ! (fld ! refl (hop ! (look-in ! {w.at(t)} (sub ! 0 refl (whole !))) (stop !)))))', '(tt, tt)')
+        w.assign(cell(AGAIN[i]), f'(agg ! {w.operands([w.load(cell(POINTER[i])), w.field(t, 1)])})', f'(tt, (tt, (record {{ fits = rooms .{NAMES[i]} .0 }}, tt)))')
+    w.move('tok', 'own', 'tabs')
+    w.takes(f'use3 W (later (some (λ (N : Names). raw (Play 𝓤 H A mem run .pre (to-play x N)) ⊛ ({OWN} ⊛ ‵ (Kept-of x N))))) (lends-all x m)', 3, 'z')
+    w.step('await ! tt')
+    w.opens('pick ! (λ N.')
+    w.split('z', 'pre', 'z')
+    w.split('z', 'own', 'backs')
+    w.move('pre')
+    w.note('`play`')
+    w.opens(f'calls-at ! fm (Play 𝓤 H A mem run) known-play (to-play x N) {w.operands([w.load(cell(PASSED_ON)), w.load(cell(LEFT)), w.load(cell(SESSION))] + [w.load(cell(AGAIN[i])) for i in TEN])} (λ u.')
+    w.pop()
+    w.push('post')
+    w.move('post', 'backs')
+    w.takes(f'use2 W (later (some (λ (y : Y x u). {TOK} ⊛ Tables-at (y .lists)))) (regains-all x N u)', 2, 'z')
+    w.step('await ! tt')
+    w.opens('pick ! (λ y.')
+    w.split('z', 'tok', 'tabs')
+    w.land(cell(PLAYED), '(subst (λ (z : Val). Holds (hasTy PL′.mir z) × WT z) (sym (y .told)) (played-typed (y .played) (y .is)))')
+    w.step(f'rewrite ! {w.at(cell(PLAYED))} (λ (z : Val). ‵ (fat fullShare PL′.mir {place(PLAYED)} 0 z)) (y .told) refl')
+    for c in sorted(w.full - TURNING - {cell(PLAYED)}, key=lambda c: int(c[1:])):
+        w.forget(c)
+    w.move(*BESIDE)
+    assert w.ctx == ORDER, w.ctx
+    w.raw('by ! (prints-piece x m y)')
+    return w.text()
+
+
+def prints():
+    w = Walk(10)
+    w.ctx, w.full = list(ORDER), TURNING | {cell(PLAYED)}
+    w.raw('qed W (Full x y) ∵ exec ! C Λ Env-of printing-on (Q x) $')
+    t = cell(TABLE[9])
+    w.note('the text is shared')
+    w.assign(cell(TEXT_POINTER), f'(addr ! (from ! (fld ! refl (hop ! (look-in ! {w.at(t)} (sub ! 0 refl (whole !))) (stop !)))))', '(tt, tt)')
+    w.assign(cell(TEXT), f'(agg ! {w.operands([w.load(cell(TEXT_POINTER)), w.field(t, 1)])})', '(tt, (tt, (record { fits = rooms .text .0 }, tt)))')
+    w.move('tok-read', 'own-read', 'tabs')
+    w.takes('use3 W (later (some (λ (ν : ℕ). some (λ (γ : GName). raw (Print 𝓤 H A mem run .pre (to-print x m y ν γ)) ⊛ (‵ OwnRead ⊛ ‵ (Hides x m y ν)))))) (shows-piece x m y)', 3, 'z')
+    w.step('await ! tt')
+    w.opens('pick ! (λ ν.')
+    w.opens('pick ! (λ γ.')
+    w.split('z', 'pre', 'z')
+    w.split('z', 'own-read', 'hidden')
+    w.move('pre')
+    w.note('`print`')
+    w.opens(f'calls-at ! fm (Print 𝓤 H A mem run) known-print (to-print x m y ν γ) {w.operands([w.load(cell(1)), w.load(cell(2)), w.field(cell(WRITTEN), 0), w.load(cell(TEXT)), w.field(cell(PLAYED), 3)])} (λ k.')
+    w.pop()
+    w.push('post')
+    w.move('post', 'hidden')
+    w.takes(f'use2 W (later (some (λ (z : {HANDED} k). {TOK_READ} ⊛ Tables-at (y .lists)))) (hides-piece x m y ν γ k)', 2, 'z')
+    w.step('await ! tt')
+    w.opens('pick ! (λ z.')
+    w.split('z', 'tok-read', 'tabs')
+    w.land(cell(WRITTEN), '(subst (λ (z : Val). Holds (hasTy WR′.mir z) × WT z) (sym (z .told)) (written-typed (z .written) (z .is)))')
+    w.step(f'rewrite ! {w.at(cell(WRITTEN))} (λ (z : Val). ‵ (fat fullShare WR′.mir {place(WRITTEN)} 0 z)) (z .told) refl')
+    w.assign(cell(MOVED), f'(of-opd ! {w.load(cell(READER))})', f'(typed {READS} p (x .at) (x .at-fits))')
+    w.note('`moved_to`')
+    reads(w, f'goes-moved-to {READS} (x .at) (y .played .at) (x .at-fits) (place-fits x m y)', 'MovedTo', 'known-moved-to', f'(to-moved-to {READS} (x .at) (y .played .at))', lambda: [w.load(cell(MOVED)), w.field(cell(PLAYED), 1)], 'r')
+    w.takes(f'use1 W (later (given (r ≡ mach s (y .played .at)) {TOK})) (gives-moved-to {READS} (x .at) (y .played .at) r)', 1, 'tok')
+    w.step('await ! tt')
+    w.opens('learn ! (λ e.')
+    w.land(cell(READER), '(typed-at (y .played .at) (place-fits x m y) r e)')
+    w.step(f'rewrite ! {w.at(cell(READER))} (λ (z : Val). ‵ (fat fullShare reader {place(READER)} 0 z)) e refl')
+    w.note('`left_over`')
+    over = '(z .written) (z .is) (y .played .left) (over-fits x m y)'
+    w.takes(f'use0 W (raw (LeftOver 𝓤 H A mem run .pre (to-left {over}))) (asks-left {over})', 0, 'pre')
+    w.opens(f'calls-at ! fm (LeftOver 𝓤 H A mem run) known-left (to-left {over}) {w.operands([w.load(cell(WRITTEN)), w.field(cell(PLAYED), 2)])} (λ n.')
+    w.step(f'use1 W (later (given (Remains (z .written) (y .played .left) n) (‵ ftrue))) (gives-left {over} n)')
+    w.step('await ! tt')
+    w.opens('learn ! (λ o.')
+    w.takes('drop !', 1)
+    w.land(cell(LEFT), '(subst (λ (z : Val). Holds (hasTy word z) × WT z) (sym (o .told)) (tt, record { fits = o .fits }))')
+    w.step(f'rewrite ! {w.at(cell(LEFT))} (λ (z : Val). ‵ (fat fullShare word {place(LEFT)} 0 z)) (o .told) refl')
+    w.step(f'assigns-last ! (of-opd ! {w.field(cell(PLAYED), 0)}) (from ! (stop !)) (store ! {w.at(cell(SESSION))} refl (session-typed (y .played .session) (played-session-is x m y)))')
+    for c in sorted(w.full - TURNING, key=lambda c: int(c[1:])):
+        w.forget(c)
+    w.move(*BESIDE)
+    assert w.ctx == ORDER, w.ctx
+    w.raw('again ! Less Inv x (onward x m y z o) (falls-on x m y z o)')
+    return w.text()
+
+
+def leaves():
+    w = Walk(10)
+    w.ctx, w.full = list(ORDER), TURNING | {cell(TEST)}
+    w.raw('qed W (Mid x) ∵ exec ! C Λ Env-of @TLEFT@ (atRet Env-of Post) $')
+    w.assign(cell(0), f'(of-opd ! {w.load(cell(WRITTEN))})', '(written-typed (x .written) (x .written-is))')
+    w.step(f'returns ! (look ! {w.at(cell(0))} refl)')
+    w.frees_all(N)
+    w.move(*BESIDE[:5])
+    w.raw('by ! (exits x failed)')
+    return w.text()
+
+
+def begins():
+    w = Walk(10)
+    w.ctx, w.full = ['alive', 'owns', 'deaths'] + ORDER[6:], {cell(i) for i in PASSED}
+    w.raw('qed W Begin ∵ exec ! C Λ Env-of t-1 (atRet Env-of Post) $')
+    w.takes(f'use2 W (({TOK} ⊛ {OWN}) ⊛ (({TOK_READ} ⊛ ‵ OwnRead) ⊛ Tables-at lists₀)) holds-all', 2, 'z')
+    w.split('z', 'f', 'z')
+    w.split('z', 'r', 'tabs')
+    w.split('r', 'tok-read', 'own-read')
+    w.split('f', 'tok', 'own')
+    w.note('`reading`')
+    reads(w, f'goes-reading {READS} start start-fits', 'Reading', 'known-reading', f'(to-reading {READS} start)', lambda: [w.load(cell(3)), w.load(cell(4))], 'u')
+    w.takes(f'use1 W (later (given (u ≡ mach s start) {TOK})) (gives-reading {READS} start u)', 1, 'tok')
+    w.step('await ! tt')
+    w.opens('learn ! (λ e.')
+    w.land(cell(READER), '(typed-at start start-fits u e)')
+    w.step(f'rewrite ! {w.at(cell(READER))} (λ (z : Val). ‵ (fat fullShare reader {place(READER)} 0 z)) e refl')
+    w.assign(cell(SESSION), f'(of-opd ! {w.load(cell(6))})', '(session-typed st st-is)')
+    w.assign(cell(LEFT), f'(of-opd ! {w.load(cell(5))})', '(tt, record { fits = actions-fits })')
+    w.assign(cell(WRITTEN), f'(agg ! {w.operands([w.load(cell(7)), "(false-lit !)"])})', '(written-typed first-written first-written-is)')
+    w.move(*BESIDE)
+    assert w.ctx == ORDER
+    w.raw('by ! goes-round')
+    return w.text()
+
+
+def stored():
+    w = Walk(10)
+    w.ctx = [x for i in reversed(range(N)) for x in (cell(i), f'd{i}')] + ['alive', 'owns']
+    w.raw(f'qed W Rooms-for ∵ storing ! Env-of {ARGUMENTS} (runs C Λ Env-of t-1 (atRet Env-of Post)) $')
+    w.step('params1 !')
+    slice_typed = lambda ℓ, κ, x, f: f'(shr-slice-lawful 𝓤 H A W (named {ℓ}) {κ} u8 .typed {x} (v {x} ∷ []) {f} .0)'
+    word_typed = lambda f: f'(tt, record {{ fits = {f} }})'
+    for i, typed in enumerate([slice_typed(0, 'κᵢ', 'input', 'read-is'), word_typed('got-fits'), slice_typed(1, 'κ₀', 's', 'p'), word_typed('start-fits'), word_typed('actions-fits'), '(session-typed st st-is)', word_typed('printed-fits')]):
+        w.step('pass1 ! ' + w.write(cell(i + 1), typed))
+    for i in TEN:
+        w.step('pass1 ! ' + w.write(cell(TABLE[i]), f'(tt, (tt, (record {{ fits = rooms .{NAMES[i]} .0 }}, tt)))'))
+    w.step('pass0 !')
+    w.move(*[f'd{i}' for i in range(N)])
+    w.takes(f'group ! {N}', N, 'deaths')
+    w.move('alive', 'owns', 'deaths')
+    assert w.ctx == ['alive', 'owns', 'deaths'] + ORDER[6:]
+    w.raw('by ! begins')
+    return w.text()
+
+
+def walk():
+    w = Walk(8)
+    entry = f'({ALIVE} ∷ ‵ (owns {ENTRY} a at) ∷ [])'
+    w.raw(f'qed W {entry} ∵ enter ! C Λ code.function {ARGUMENTS} Post $')
+    w.raw(f'allocates ! (code.function .locals) {entry} (λ E. params′ E {ARGUMENTS} (runs C Λ E (code.function .body) (atRet E Post)))')
+    w.raw('(λ bs. by ! (stored ' + ' '.join('(' + proj('bs', i) + ')' for i in range(N)) + '))')
+    return w.text()
+
+
+def write(folder):
+    t = open(folder + '/tools/play_all.tmpl').read()
+    plain_stay = lambda row: f'stay-none (λ _. {row}) yes'
+    plain_goes = lambda row: f'goes-none 𝓤 H A W 12 (λ _. {row}) yes (λ κs x f. refl)'
+    printing_on = 'turn-1'
+    for _ in range(2 + 22):
+        printing_on = f'rest ({printing_on})' if ' ' in printing_on else f'rest {printing_on}'
+    parts = {
+        'STAYS': nest(['stay-none-slice (0 ∷ []) tt (plain (λ _. u8)) yes', plain_stay('usize'), 'stay-none-slice (1 ∷ []) tt (plain (λ _. u8)) yes', plain_stay('usize'), plain_stay('usize'), plain_stay('SS.the-row'), plain_stay('usize')]
+                      + [f'stay-slice ({i + 2} ∷ []) tt (plain (λ _. {ROWS[i]}))' for i in TEN]),
+        'GOES': nest(['goes-none-slice 𝓤 H A W 12 (0 ∷ []) tt (plain (λ _. u8)) yes', plain_goes('usize'), 'goes-none-slice 𝓤 H A W 12 (1 ∷ []) tt (plain (λ _. u8)) yes', plain_goes('usize'), plain_goes('usize'), plain_goes('SS.the-row'), plain_goes('usize')]
+                     + [f'goes-slice 𝓤 H A W 12 {i + 2} tt (plain (λ _. {ROWS[i]}))' for i in TEN]),
+        'VALS': nest(['slice-vals', 'uint-vals w64', 'slice-vals', 'uint-vals w64', 'uint-vals w64', 'LL.vals SS.the-type SS′.the-laws', 'uint-vals w64'] + ['slice-vals'] * 10),
+        'TELLS': nest(['shr-slice-tells (named 0) (κs .0) u8', 'uint-tells w64', 'shr-slice-tells (named 1) (κs .1 .0) u8', 'uint-tells w64', 'uint-tells w64', 'LL.tells SS.the-type SS′.the-laws', 'uint-tells w64']
+                      + [f'mut-slice-tells (named {i + 2}) ({proj("κs", i + 2)}) {ROWS[i]}' for i in TEN]),
+        'ROOMS': '(record { ' + ' '.join(f'{NAMES[i]} = {proj("are", 7 + i)} .0 .1;' for i in TEN) + ' })',
+        'TEN': 'record { ' + ' '.join(f'{NAMES[i]} = {proj("a", 7 + i)};' for i in TEN) + ' }',
+        'PLAYED': plays('file', 's', 't', 'at', 'left', 'played', 'lists'),
+        'PRINTINGON': printing_on,
+        'TOKF': TOK, 'TOKI': TOK_READ, 'OWNF': OWN, 'ATV': AT, 'KSN': KS, 'QSN': QS, 'ARGS': TO, 'AVALS': TO_VALUES, 'ASKF': ASKED, 'ARGM': ARGUMENTS, 'OFWS': LISTS_OF,
+        'KSP': KS_PRINT, 'QSP': QS_PRINT, 'ARGSP': TO_PRINT, 'AVALSP': TO_PRINT_VALUES, 'ALIVEP': ALIVE_PRINT, 'ASKP': ASKED_PRINT,
+        'LS': ' '.join(place(i) for i in range(N)),
+        'ENV': ' ∷ '.join(f'({TYPES[i]}, {place(i)})' for i in range(N)) + ' ∷ []',
+        'DEATHS': chain([f'‵ (fdies {TYPES[i]} {place(i)})' for i in range(N)]),
+        'INV': context(TURNING, 'x'), 'MID': context(TURNING | {cell(TEST)}, 'x'), 'FULL': context(TURNING | {cell(PLAYED)}, 'y'),
+        'BEGCTX': context({cell(i) for i in PASSED}, None, [ALIVE, f'‵ (owns {ENTRY} a at)', 'Deaths']),
+        'ROOMSCTX': ' ∷ '.join(f'‵ (froom {TYPES[i]} {place(i)} 0) ∷ ‵ (fdies {TYPES[i]} {place(i)})' for i in reversed(range(N))) + f' ∷ {ALIVE} ∷ ‵ (owns {ENTRY} a at) ∷ []',
+        'HOLDS': holds_all(), 'LENDSALL': lends_all(), 'REGAINSALL': regains_all(), 'SHOWSPIECE': shows_piece(), 'HIDESPIECE': hides_piece(), 'EXITS': exits(), 'BODY': body(), 'PRINTS': prints(), 'LEAVES': leaves(), 'TURN': turn(),
+        'BEGINS': begins(), 'STORED': stored(), 'WALK': walk(),
+        'TLOOP': 't-5', 'TLEFT': 't-6',
+    }
+    open(folder + '/crates/printing/proofs/play_all/Proof.antt', 'w').write(filled(t, parts))

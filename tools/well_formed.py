@@ -1,0 +1,140 @@
+"""Writes crates/drill_file/proofs/well_formed/Proof.antt, the walk of `drill_file::well_formed`, from well_formed.tmpl. Run it again by `tools/walks` after a change."""
+from walk import Walk, filled, sub
+
+# ---- the locals, as `rt mir drill_file` shows them: 0 the result; 1 the file, 2 the place and 3 the number of the actions passed; then the reader, the actions left, the test, whether the action is bad, the action, the reader read, the reader moved on
+READER, LEFT, TEST, BAD, ACTION, READ, MOVED = range(4, 11)
+N = 11
+
+cell = lambda i: f'c{i}'
+place = lambda i: 'l' + sub(i)
+PLACES = ' '.join(place(i) for i in range(N))
+TYPES = {0: 'tyBool', 1: 'slice', 2: 'word', 3: 'word', READER: 'reader', LEFT: 'word', TEST: 'tyBool', BAD: 'tyBool', ACTION: 'action', READ: 'reader', MOVED: 'reader'}
+VALUES = {1: 'v s', 2: 'vint w64 start', 3: 'vint w64 actions', READER: 'mach s (x .at)', LEFT: 'vint w64 (x .left)'}
+READS = '𝓤 H A W mem run κ q s'
+TOK = '(‵ (flft κ q) ⊛ ‵ ftrue)'
+OWN = f'‵ (Own {READS})'
+ACT = '(actionAt (now s) (x .at))'
+ORDER = ['own', 'tok'] + [x for i in reversed(range(N)) for x in (cell(i), f'd{i}')]
+
+
+def reads(w, goes, contract, known, to, operands, result):
+    """A call of a reader's function: the token and what the file owns give what it asks, and what the file owns is kept."""
+    w.move('tok', 'own')
+    w.takes(f'use2 W (raw ({contract} 𝓤 H A mem run .pre {to}) ⊛ {OWN}) ({goes})', 2, 'z')
+    w.split('z', 'pre', 'own')
+    w.opens(f'calls-at ! fm ({contract} 𝓤 H A mem run) {known} {to} {w.operands(operands())} (λ {result}.')
+    w.pop()
+    w.push('post')
+
+
+def rewrites(w, i, e):
+    w.step(f'rewrite ! {w.at(cell(i))} (λ (z : Val). ‵ (fat fullShare {TYPES[i]} {place(i)} 0 z)) {e} refl')
+
+
+def walk():
+    w = Walk(8)
+    w.raw('qed W ((‵ (flft κ q) ⊛ ‵ ftrue) ∷ ‵ (owns (ShrSlice (named 0) κ u8 ∷ usize ∷ usize ∷ []) (s, (start, (actions, tt))) at) ∷ []) ∵ enter ! C Λ code.function (v s ∷ vint w64 start ∷ vint w64 actions ∷ []) _ $')
+    w.ctx = ['tok', 'owns']
+    for i in range(N):
+        w.opens(f'alloc1 ! (λ {place(i)}.')
+        w.push(cell(i), f'd{i}')
+    w.step('alloc0 !')
+    w.step('params1 !')
+    w.step('pass1 ! ' + w.write(cell(1), '(shr-slice-lawful 𝓤 H A W (named 0) κ u8 .typed s (v s ∷ []) p .0)'))
+    w.step('pass1 ! ' + w.write(cell(2), '(tt, record { fits = start-fits })'))
+    w.step('pass1 ! ' + w.write(cell(3), '(tt, record { fits = actions-fits })'))
+    w.step('pass0 !')
+    w.fsplit('owns', 'own', 'numbers')
+    w.drop('numbers')
+    w.note('`reading`')
+    reads(w, f'goes-reading {READS} start start-fits', 'Reading', 'known-reading', f'(to-reading {READS} start)', lambda: [w.load(cell(1)), w.load(cell(2))], 'u')
+    w.takes(f'use1 W (later (given (u ≡ mach s start) {TOK})) (gives-reading {READS} start u)', 1, 'tok')
+    w.step('await ! tt')
+    w.opens('learn ! (λ e.')
+    w.land(cell(READER), '(typed-at start start-fits u e)')
+    rewrites(w, READER, 'e')
+    w.assign(cell(LEFT), f'(of-opd ! {w.load(cell(3))})', '(tt, record { fits = actions-fits })')
+    w.note('the loop')
+    w.keep(*ORDER)
+    w.opens(f'looping ! 𝓣 Less falls (Inv {PLACES}) (λ x.')
+    turns = w.close
+    w.assign(cell(TEST), f'(bin ! (lit ! tt) {w.load(cell(LEFT))} tt)', '(tt, tt)')
+    tested = list(w.ctx), set(w.full)
+    w.opens(f'whiles ! (ltb 0 (x .left)) {w.load(cell(TEST))} (λ held.')
+    w.note('`next`')
+    w.assign(cell(READ), f'(of-opd ! {w.load(cell(READER))})', f'(typed {READS} p (x .at) (in-file x))')
+    reads(w, f'goes-next {READS} (x .at) (in-file x)', 'Next', 'known-next', f'(to-next {READS} (x .at))', lambda: [w.load(cell(READ))], 'u₁')
+    w.takes(f'use1 W (later ({TOK} ⊛ ‵ (S.the-row .own {ACT} (u₁ ∷ [])))) (gives-next {READS} (x .at) u₁)', 1, 'z')
+    w.step('await ! tt')
+    w.split('z', 'tok', 'act')
+    w.move('act')
+    w.opens(f'peeks ! S.the-row (Is S.the-row) (shows 𝓤 H A S.the-row) {ACT} (u₁ ∷ []) (λ is₁.')
+    w.land(cell(ACTION), f'(EL.lawful S.the-type S′.the-laws 𝓤 H A W tt .typed {ACT} _ is₁ .0)')
+    w.note('`is_bad`')
+    w.step('use1 W (raw (IsBad 𝓤 H A mem run .pre (to-bad (x .at) u₁))) (goes-bad (x .at) u₁)')
+    w.opens(f'calls-at ! fm (IsBad 𝓤 H A mem run) known-bad (to-bad (x .at) u₁) {w.operands([w.load(cell(ACTION))])} (λ u₂.')
+    w.step(f'use1 W (later (given (u₂ ≡ vbool (isBad {ACT})) (‵ ftrue))) (gives-bad (x .at) u₁ u₂)')
+    w.step('await ! tt')
+    w.opens('learn ! (λ e₂.')
+    w.takes('drop !', 1)
+    w.land(cell(BAD), '(subst (λ (z : Val). Holds (hasTy tyBool z) × WT z) (sym e₂) (tt, tt))')
+    rewrites(w, BAD, 'e₂')
+    forked = list(w.ctx), set(w.full)
+    w.opens(f'forks ! (isBad {ACT}) {w.load(cell(BAD))} (λ bad.')
+    w.assign(cell(0), '(of-opd ! (false-lit !))', '(tt, tt)')
+    w.step(f'returns-within ! Post refl (look ! {w.at(cell(0))} refl)')
+    w.frees(N)
+    w.keep('tok', 'own')
+    w.raw('by ! (exits false (sym (stops-here x held bad))))')
+    w.note('`moved`')
+    w.raw('(λ good.')
+    w.ctx, w.full = forked
+    w.assign(cell(MOVED), f'(of-opd ! {w.load(cell(READER))})', f'(typed {READS} p (x .at) (in-file x))')
+    reads(w, f'goes-moved {READS} (x .at) (in-file x) (next-in-file x held)', 'Moved', 'known-moved', f'(to-moved {READS} (x .at))', lambda: [w.load(cell(MOVED))], 'u₃')
+    w.takes(f'use1 W (later (given (u₃ ≡ mach s (x .at + 5)) {TOK})) (gives-moved {READS} (x .at) u₃)', 1, 'tok')
+    w.step('await ! tt')
+    w.opens('learn ! (λ e₃.')
+    w.land(cell(READER), '(typed-at (x .at + 5) (next-in-file x held) u₃ e₃)')
+    rewrites(w, READER, 'e₃')
+    w.step(f'assigns-last ! (bin ! {w.load(cell(LEFT))} (lit ! tt) (some-left x held)) (from ! (stop !)) (store ! {w.at(cell(LEFT))} refl (tt, record {{ fits = less-fits x held }}))')
+    for i in (TEST, BAD, ACTION, READ, MOVED):
+        w.forget(cell(i))
+    w.keep(*ORDER)
+    w.raw(f'again ! Less (Inv {PLACES}) x (onward x held good) (falls-by-one x held)' + ')' * (w.close - turns))
+    w.close = turns
+    w.note('the loop is left')
+    w.raw('(λ failed.')
+    w.ctx, w.full = tested
+    w.step(f'exec ! C Λ (Env-of {PLACES}) t-4 (atRet (Env-of {PLACES}) Post)')
+    w.assign(cell(0), '(of-opd ! (true-lit !))', '(tt, tt)')
+    w.step(f'returns ! (look ! {w.at(cell(0))} refl)')
+    w.frees(N)
+    w.keep('tok', 'own')
+    w.raw('by ! (exits true (sym (ends-here x failed)))))')
+    w.close -= 1
+    w.raw('(record { at = start; left = actions; same = refl; place = refl })')
+    return w.text()
+
+
+def write(folder):
+    parts = []
+    for n in ORDER:
+        i = int(n[1:]) if n[1:].isdigit() else None
+        if n == 'own':
+            parts.append(OWN)
+        elif n == 'tok':
+            parts.append(TOK)
+        elif n[0] == 'd':
+            parts.append(f'‵ (fdies {TYPES[i]} {place(i)})')
+        elif i in VALUES:
+            parts.append(f'‵ (fat fullShare {TYPES[i]} {place(i)} 0 ({VALUES[i]}))')
+        else:
+            parts.append(f'‵ (froom {TYPES[i]} {place(i)} 0)')
+    t = open(folder + '/tools/well_formed.tmpl').read()
+    text = filled(t, {
+        'WALK': walk(),
+        'INV': ' ∷ '.join(parts) + ' ∷ []',
+        'ENV': ' ∷ '.join(f'({TYPES[i]}, {place(i)})' for i in range(N)) + ' ∷ []',
+        'LS': PLACES,
+    })
+    open(folder + '/crates/drill_file/proofs/well_formed/Proof.antt', 'w').write(text)
