@@ -1,0 +1,2 @@
+-- What the functions that print a drill promise.
+pub mod Promises
