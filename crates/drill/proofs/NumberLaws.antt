@@ -12,6 +12,7 @@ use Rattle.plan.specs.Cells.{Size}
 use Rattle.plan.specs.Costs.{planOf}
 use Rattle.tables.specs.declared.Session.{Session}
 use Rattle.tables.specs.Lent.{Tables, cells, floor, Fits}
+use Rattle.entries.specs.Begin.{Openable}
 use Rattle.session.specs.Refusals.{Ruled, fails, holds, OpenRules}
 use Rattle.session.proofs.RefusalLaws.{passed-zero, onward}
 use Rattle.change.specs.Refusals.{MoveRules}
@@ -31,16 +32,10 @@ unfolding moveNumber
 move-number s plan = chosen _ (chosen _ (chosen _ passed-zero))
 
 -- The number of open, where the size and the lengths are right.
-pub open-number : {width height hunter target : ℕ} {t : Tables} {k : ℕ} → Size width height → Fits (height * width) t → OpenRules width height hunter target t k → k ≡ openNumber (planOf width height (t .plan)) hunter target
+pub open-number : {width height hunter target : ℕ} {t : Tables} {k : ℕ} → Size width height → Fits (height * width) t
+    → OpenRules width height hunter target t k → k ≡ openNumber (planOf width height (t .plan)) hunter target
 unfolding openNumber
 open-number z f r = chosen _ (chosen _ (chosen _ passed-zero)) (onward f (onward z r))
-
--- What a file of right form has: its size, and the lengths of its parts.
-pub record Formed (file : List ℕ) : Type 0 where
-  pub long : 12 ≤ length file
-  pub size : Size (drill-file.trailerOf file .width) (drill-file.trailerOf file .height)
-  pub offset : drill-file.trailerOf file .offset ≡ 4 * drill-file.cells (drill-file.trailerOf file)
-  pub whole : length file ≡ drill-file.trailerOf file .offset + 5 * drill-file.trailerOf file .actions + 12
 
 -- A choice that is 0 chose the first, where the second is not 0.
 granted : {P : Type 0} (test : Dec P) {x n : ℕ} → 1 ≤ n → choose test x n ≡ 0 → P × (x ≡ 0)
@@ -48,13 +43,35 @@ unfolding choose
 granted (yes p) l e = (p, e)
 granted (no a) l e = absurd (omega arith)
 
+-- Where it is 0, a fresh start can be made.
+pub number-opens : {width height hunter target : ℕ} {t : Tables} → Size width height → Fits (height * width) t
+    → openNumber (planOf width height (t .plan)) hunter target ≡ 0 → Openable width height hunter target t
+unfolding openNumber
+number-opens z f e =
+    let a = granted _ (omega arith) e in
+    let b = granted _ (omega arith) (a .1) in
+    record { fits = f; hunter-in = a .0 .0; target-in = a .0 .1; obeys = record { size = z; sized = f .plan; edges = b .0; bytes = granted _ (omega arith) (b .1) .0 } }
+
+-- What a file of right form has: its size, and the lengths of its parts.
+pub record Formed (file : List ℕ) : Type 0 where
+  pub long : 12 ≤ length file
+  pub short : length file ≤ 65536
+  pub size : Size (drill-file.trailerOf file .width) (drill-file.trailerOf file .height)
+  pub offset : drill-file.trailerOf file .offset ≡ 4 * drill-file.cells (drill-file.trailerOf file)
+  pub whole : length file ≡ drill-file.trailerOf file .offset + 5 * drill-file.trailerOf file .actions + 12
+
 pub formed : (file : List ℕ) → drill-file.formNumber file ≡ 0 → Formed file
 unfolding drill-file.formNumber
 formed file e =
     let a = granted _ (omega arith) e in
     let b = granted _ (omega arith) (a .1) in
     let c = granted _ (omega arith) (b .1) in
-    record { long = a .0 .0; size = b .0; offset = c .0 .0; whole = c .0 .1 }
+    record { long = a .0 .0; short = a .0 .1; size = b .0; offset = c .0 .0; whole = c .0 .1 }
+
+-- Its trailer tells the number of its cells.
+pub cells-formed : (file : List ℕ) → drill-file.formNumber file ≡ 0 → drill-file.cellsIn file ≡ drill-file.cells (drill-file.trailerOf file)
+unfolding drill-file.cellsIn
+cells-formed file e = let F = formed file e in choose-yes _ _ _ (F .long) ∙ choose-yes _ _ _ (F .size)
 
 -- The number of a file of right form is open's.
 pub file-number : (file : List ℕ) → drill-file.formNumber file ≡ 0 → fileNumber file ≡ openNumber (planIn file) (drill-file.trailerOf file .hunter) (drill-file.trailerOf file .target)

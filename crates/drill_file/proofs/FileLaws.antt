@@ -10,13 +10,14 @@ use native.Mathlib.Omega.{arith}
 use lib.Dec.{T}
 use lib.ListN.{length, getD}
 use Rattle.method.specs.Tables.{choose}
-use Rattle.method.proofs.Choices.{choose-yes, choose-no}
+use Rattle.method.proofs.Choices.{choose-yes, choose-no, choose-is}
+use Rattle.plan.proofs.MoveLaws.{area}
 use types.Run.{OneOf}
 use denote.Enum.Declared.{tagOf}
 use Rattle.drill_file.specs.declared.Action.{Action}
 use Rattle.drill_file.specs.declared.Action.the-variants.{Change, Hunter, Target, Search, Bad}
 use Rattle.drill_file.specs.declared.Trailer.{Trailer}
-use Rattle.drill_file.specs.File.{two, trailerAt, trailerOf, cells, actionAt, actionsFrom, isBad, wellFormed, isSize, formNumber}
+use Rattle.drill_file.specs.File.{two, trailerAt, trailerOf, cells, actionAt, actionsFrom, isBad, wellFormed, isSize, formNumber, cellsIn}
 use Rattle.drill_file.proofs.Action.{the-type}
 
 -- Where a test holds, what equals the first of two equals their choice ..
@@ -100,6 +101,16 @@ module _ (file : List ℕ) {t : Trailer} where
   unfolding formNumber
   form-of l h e n = chosen _ _ (l, h) (n ∙ ap (numberAt file) e)
 
+  -- Where there is a trailer, its size gives the number of cells.
+  pub cells-of : {k : ℕ} → 12 ≤ length file → t ≡ trailerOf file → k ≡ choose (isSize (t .width) (t .height)) (cells t) 0 → k ≡ cellsIn file
+  unfolding cellsIn
+  cells-of l e n = chosen _ _ l (n ∙ ap (λ (x : Trailer). choose (isSize (x .width) (x .height)) (cells x) 0) e)
+
   -- A trailer's number of actions has two bytes.
   pub actions-few : ((i : ℕ) → getD file i 0 < 256) → t ≡ trailerOf file → t .actions < 65536
   actions-few b e = omega (arith, b (length file - 12 + 6), b (length file - 12 + 6 + 1), ap (λ (t : Trailer). t .actions) e)
+
+-- No file tells more cells than the greatest plan has.
+pub cells-few : (file : List ℕ) → cellsIn file ≤ 4096
+unfolding cellsIn
+cells-few file = choose-is (λ n. n ≤ 4096) _ (λ _. choose-is (λ n. n ≤ 4096) _ area (λ _. omega arith)) (λ _. omega arith)

@@ -3,7 +3,7 @@ use plan;
 ghost use mathlib.Core.Path.{_≡_};
 ghost use Prim.Native.Nat.{_+_, _*_, _≤_, _<_, _^_};
 ghost use lib.ListN.{length};
-ghost use Rattle.drill_file.specs.File.{two, trailerOf, actionOf, actionAt, actionsFrom, isBad, wellFormed, formNumber};
+ghost use Rattle.drill_file.specs.File.{two, trailerOf, actionOf, actionAt, actionsFrom, isBad, wellFormed, formNumber, cellsIn};
 
 // What the last 12 bytes say.
 pub struct Trailer {
@@ -181,4 +181,18 @@ pub fn form(file: &[u8]) -> u8
         return 8;
     }
     0
+}
+
+// The number of cells that the trailer of a file tells, 0 where it tells none.
+pub fn cells_in(file: &[u8]) -> usize
+    ensures { λ r. ⌜ r ≡ cellsIn (now (file .entry)) ⌝ }
+{
+    if file.len() < 12 {
+        return 0;
+    }
+    let t = trailer_of(file);
+    if !plan::is_size(t.width, t.height) {
+        return 0;
+    }
+    t.height * t.width
 }

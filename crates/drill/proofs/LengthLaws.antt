@@ -1,0 +1,102 @@
+-- The output of a file has fewer bytes than a number of 64 bits counts, whatever the file is.
+use mathlib.Core.Path.{_≡_, refl, ap, _∙_}
+use mathlib.Core.List.{List, [], _∷_, _++_}
+use Prim.Native.Nat.{ℕ, zero, suc, _+_, _*_, _≤_, _<_, _^_}
+use native.Mathlib.Omega.{arith}
+use native.Mathlib.Nat.{suc-mul, mul-le-mul}
+use lib.ListN.{length, getD, length-append}
+use Rattle.method.specs.Tables as method
+use Rattle.method.specs.Graph.{Graph, Hunt}
+use Rattle.method.specs.Loop.{run}
+use Rattle.method.specs.Session as method-session
+use Rattle.method.proofs.Choices.{choose-is}
+use Rattle.method.proofs.Searching.{of-search}
+use Rattle.plan.specs.Costs.{cells}
+use Rattle.plan.specs.Grid.{graphOf}
+use Rattle.plan.proofs.MoveLaws.{area}
+use Rattle.answer.specs.Answer.{answerOf, cellsOf}
+use Rattle.drill_file.specs.declared.Action.{Action}
+use Rattle.drill_file.specs.declared.Action.the-variants.{Change, Hunter, Target, Search, Bad}
+use Rattle.drill_file.specs.File.{trailerOf, actionsFrom, actionsOf}
+use Rattle.lines.specs.Text.{bytes, decimal, spaced, line, refusedLine}
+use Rattle.lines.proofs.TextLaws.{decimal-few}
+use Rattle.drill.specs.Numbers.{moveNumber}
+use Rattle.drill.specs.Play.{Standing, Turn, turn, played}
+use Rattle.drill.specs.Output.{fileNumber, begun, output}
+use Rattle.drill.proofs.NumberLaws.{formed, file-formed}
+
+-- A way has a cell more than it has links, at most one for each cell of the plan.
+way-few : (H : Hunt) (parent : List ℕ) (links s : ℕ) (rest : List ℕ) → length (method-session.wayFrom H parent links s rest) ≤ links + 1 + length rest
+unfolding method-session.wayFrom
+way-few H parent zero s rest = omega arith
+way-few H parent (suc links) s rest =
+    choose-is (λ (l : List ℕ). length l ≤ suc links + 1 + length rest) _ (λ _. omega arith)
+    (λ _. omega (arith, way-few H parent links (method-session.parentCell (H .graph .into s) (getD parent s 0)) (s ∷ rest)))
+
+cells-few : (G : Graph) (σ : method-session.Session) (T : method.Tables) → length (cellsOf (method-session.search G σ T .answer)) ≤ G .cells + 1
+unfolding method-session.answerOf
+cells-few G σ T =
+    of-search G σ T (λ o. Q (o .answer)) (λ _. omega arith) (λ _. choose-is Q _ (λ _. choose-is Q _ (λ _. omega arith) (λ _. way-fits)) (λ _. omega arith))
+  where
+    Q : method-session.Answer → Type 0
+    Q a = length (cellsOf a) ≤ G .cells + 1
+
+    H : Hunt
+    H = method-session.huntOf G (method-session.takenOver G σ T .session)
+
+    way-fits : length (method-session.wayFrom H (run H (3 * G .cells) (method-session.takenOver G σ T .tables) .tables .parent) (G .cells) (H .target) []) ≤ G .cells + 1
+    way-fits = omega (arith, way-few H (run H (3 * G .cells) (method-session.takenOver G σ T .tables) .tables .parent) (G .cells) (H .target) [])
+
+-- A space and a number take 21 bytes at most.
+spaced-few : (l : List ℕ) → length (spaced l) ≤ 21 * length l
+unfolding spaced bytes
+spaced-few [] = omega arith
+spaced-few (s ∷ l) = omega (arith, length-append (bytes " " ++ decimal s) (spaced l), decimal-few s, spaced-few l)
+
+-- A line has room for its words, two numbers and its cells.
+refusal-few : (n : ℕ) → length (refusedLine n) ≤ 74
+unfolding bytes
+refusal-few n = simp length-append (omega (arith, decimal-few n))
+
+line-few : (a : method-session.Answer) → length (line (answerOf a) (cellsOf a)) ≤ 53 + 21 * length (cellsOf a)
+unfolding bytes
+line-few (method-session.caught s) = simp length-append (omega (arith, decimal-few s))
+line-few (method-session.none-leads n) = simp length-append (omega (arith, decimal-few n))
+line-few (method-session.way c n l) = simp length-append (omega (arith, decimal-few c, decimal-few n, spaced-few l))
+line-few method-session.cut-off = simp length-append (omega (arith, decimal-few 9))
+
+-- An action prints a line of so many bytes at most and keeps the size of the plan.
+Short : ℕ → Turn → Type 0
+Short n t = (length (t .line) ≤ 74 + 21 * n) × (cells (t .after .plan) ≡ n)
+
+turn-few : (S : Standing) (a : Action) → Short (cells (S .plan)) (turn S a)
+unfolding turn Short
+turn-few S (Change u d cost) = choose-is (Short (cells (S .plan))) _ (λ _. (omega arith, refl)) (λ _. (omega (arith, refusal-few (moveNumber (S .plan) u d cost)), refl))
+turn-few S (Hunter s) = choose-is (Short (cells (S .plan))) _ (λ _. (omega arith, refl)) (λ _. (omega (arith, refusal-few 3), refl))
+turn-few S (Target s) = choose-is (Short (cells (S .plan))) _ (λ _. (omega arith, refl)) (λ _. (omega (arith, refusal-few 3), refl))
+turn-few S Search = (omega (arith, line-few (method-session.search (graphOf (S .plan)) (S .session) (S .tables) .answer), cells-few (graphOf (S .plan)) (S .session) (S .tables)), refl)
+turn-few S Bad = (omega arith, refl)
+
+played-few : (l : List Action) (S : Standing) (n : ℕ) → cells (S .plan) ≡ n → length (played S l) ≤ length l * (74 + 21 * n)
+unfolding played Short
+played-few [] S n e = omega arith
+played-few (a ∷ l) S n e =
+    let h = turn-few S a in
+    omega (arith, length-append (turn S a .line) (played (turn S a .after) l), played-few l (turn S a .after) n (h .1 ∙ e), suc-mul (length l) (74 + 21 * n), h .0, e)
+
+actions-count : (file : List ℕ) (at n : ℕ) → length (actionsFrom file at n) ≡ n
+unfolding actionsFrom
+actions-count file at zero = refl
+actions-count file at (suc n) = ap suc (actions-count file (at + 5) n)
+
+-- A file that is played has at most 13,104 actions, and 4,096 cells.
+pub output-few : (file : List ℕ) → length (output file) < 2 ^ 64
+unfolding output
+output-few file = choose-is (λ (l : List ℕ). length l < 2 ^ 64) _ (λ z. of-played z) (λ _. omega (arith, refusal-few (fileNumber file)))
+  where
+    of-played : fileNumber file ≡ 0 → length (played (begun file) (actionsOf file)) < 2 ^ 64
+    of-played z =
+        let F = formed file (file-formed file z) in
+        let few : length (actionsOf file) ≤ 13104 = omega (arith, actions-count file (trailerOf file .offset) (trailerOf file .actions), F .whole, F .short) in
+        let short : 74 + 21 * cells (begun file .plan) ≤ 86090 = omega (arith, area (F .size)) in
+        omega (arith, played-few (actionsOf file) (begun file) (cells (begun file .plan)) refl, mul-le-mul few short)

@@ -1,0 +1,127 @@
+-- `drill::begin` refuses a file by its number or opens it (`begins-refused`, `begins-opened`); a fresh start on the copied plan leaves what the definition says (`starts`).
+use mathlib.Core.Path.{sym, _∙_}
+use borrow.Author.Needs.{needs}
+use Rattle.drill.proofs.NumberLaws.{file-formed}
+use Rattle.drill.proofs.BeginLaws.{plan-in-file, trailer-in-file, openable, starts, begins-refused, begins-opened}
+use Rattle.drill.proofs.begin.Statement.{statement}
+use Rattle.drill.proofs.begin.Tie as tie
+
+file-refusal-requires : tie.Need-file-refusal-requires
+file-refusal-requires c κs = search needs
+
+refuse-requires : tie.Need-refuse-requires
+refuse-requires c κs = search needs
+
+same-length : tie.Need-same-length
+same-length c = search needs
+
+same-length-2 : tie.Need-same-length-2
+same-length-2 c = search needs
+
+same-length-3 : tie.Need-same-length-3
+same-length-3 c = search needs
+
+same-length-4 : tie.Need-same-length-4
+same-length-4 c = search needs
+
+same-length-5 : tie.Need-same-length-5
+same-length-5 c = search needs
+
+same-length-6 : tie.Need-same-length-6
+same-length-6 c = search needs
+
+same-length-7 : tie.Need-same-length-7
+same-length-7 c = search needs
+
+same-length-8 : tie.Need-same-length-8
+same-length-8 c = search needs
+
+same-length-9 : tie.Need-same-length-9
+same-length-9 c = search needs
+
+returns : tie.Need-returns
+returns c = begins-refused (c .before .before .before .before .before .file-refusal .ensures) (c .before .before .before .before .if1 .taken) (c .before .before .refuse .ensures)
+
+copy-plan-requires : tie.Need-copy-plan-requires
+copy-plan-requires c κs =
+    let asked = c .before .before in
+    let start = asked .before .before .before .before .before .before .before .before .before .before .before .before .before .before .before .before .before .before .before in
+    plan-in-file _ (start .pre .fits) (file-formed _ (sym (asked .file-refusal .ensures) ∙ c .before .if1 .left))
+
+trailer-of-requires : tie.Need-trailer-of-requires
+trailer-of-requires c κs =
+    let asked = c .before .before .before .before .before in
+    let start = asked .before .before .before .before .before .before .before .before .before .before .before .before .before .before .before .before .before .before .before in
+    trailer-in-file _ (start .pre .fits) (file-formed _ (sym (asked .file-refusal .ensures) ∙ c .before .before .before .before .if1 .left))
+
+begin-requires : tie.Need-begin-requires
+begin-requires c κs =
+    let read = c .before .before .before .before .before .before .before .before in
+    let copied = read .before .before .before in
+    let asked = copied .before .before .before in
+    let start = asked .before .before .before .before .before .before .before .before .before .before .before .before .before .before .before .before .before .before .before in
+    let z = sym (asked .file-refusal .ensures) ∙ copied .before .before .if1 .left in
+    openable _ (start .pre .fits) (file-formed _ z) (copied .copy-plan .ensures) (read .trailer-of .ensures) z
+
+same-length-10 : tie.Need-same-length-10
+same-length-10 c = search needs
+
+same-length-11 : tie.Need-same-length-11
+same-length-11 c = search needs
+
+same-length-12 : tie.Need-same-length-12
+same-length-12 c = search needs
+
+same-length-13 : tie.Need-same-length-13
+same-length-13 c = search needs
+
+same-length-14 : tie.Need-same-length-14
+same-length-14 c = search needs
+
+same-length-15 : tie.Need-same-length-15
+same-length-15 c = search needs
+
+same-length-16 : tie.Need-same-length-16
+same-length-16 c = search needs
+
+same-length-17 : tie.Need-same-length-17
+same-length-17 c = search needs
+
+returns-2 : tie.Need-returns-2
+returns-2 c =
+    let begun = c .before .before .before .before .before .before .before .before .before .before .before .before .before .before in
+    let read = begun .before .before .before .before .before .before .before .before .before in
+    let copied = read .before .before .before in
+    let asked = copied .before .before .before in
+    let start = asked .before .before .before .before .before .before .before .before .before .before .before .before .before .before .before .before .before .before .before in
+    let z = sym (asked .file-refusal .ensures) ∙ copied .before .before .if1 .left in
+    begins-opened z (starts _ (start .pre .fits) (file-formed _ z) (copied .copy-plan .ensures) (read .trailer-of .ensures) z (begun .begin .ensures))
+
+pub begin-spec : {M : Type 1} → statement M
+begin-spec =
+    tie.close
+    (tie.spec
+    file-refusal-requires
+    refuse-requires
+    same-length
+    same-length-2
+    same-length-3
+    same-length-4
+    same-length-5
+    same-length-6
+    same-length-7
+    same-length-8
+    same-length-9
+    returns
+    copy-plan-requires
+    trailer-of-requires
+    begin-requires
+    same-length-10
+    same-length-11
+    same-length-12
+    same-length-13
+    same-length-14
+    same-length-15
+    same-length-16
+    same-length-17
+    returns-2)
