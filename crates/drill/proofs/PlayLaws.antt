@@ -18,19 +18,22 @@ use Rattle.plan.specs.Costs as costs
 use Rattle.tables.specs.declared.Session.{Session}
 use Rattle.tables.specs.Lent.{Tables, cells, floor, session, core, Fits}
 use Rattle.tables.specs.Sound.{Sound}
+use Rattle.tables.specs.Told.{Told}
 use Rattle.tables.proofs.SoundLaws.{sound-fits}
 use Rattle.session.specs.declared.Answer.{Answer}
 use Rattle.session.specs.declared.Reply.{Reply}
 use Rattle.session.specs.Refusals.{Ruled, fails, holds, Passed, passed, answered}
 use Rattle.session.specs.Promises.{hunterAt, targetAt, Places}
 use Rattle.session.proofs.RefusalLaws.{passed-zero, onward, place-granted, sound-rules}
-use Rattle.session.proofs.Theorems.{hunter-placed-sound, target-placed-sound}
+use Rattle.session.proofs.Theorems.{place-answer, hunter-placed-sound, target-placed-sound}
 use Rattle.change.specs.Promise.{Changes}
-use Rattle.change.proofs.Theorems.{change-keeps-sound}
+use Rattle.change.proofs.Theorems.{change-answer, change-keeps-sound}
 use Rattle.search.specs.declared.Outcome.{Outcome}
 use Rattle.answer.specs.declared.Answer as search-answer
-use Rattle.answer.specs.Answer.{toldBy, answerOf, cellsOf}
+use Rattle.answer.specs.Answer.{countOf, answerOf, cellsOf}
+use Rattle.answer.proofs.AnswerLaws.{count-told}
 use Rattle.search.specs.Promise.{outcome, written, Searched, Searches}
+use Rattle.search.proofs.SearchLaws.{searched-answer}
 use Rattle.demands.specs.Demands.{RightlyAnswered, caught, none-leads, way-shown}
 use Rattle.demands.proofs.Demands.{demand-2, demand-3}
 use Rattle.drill_file.specs.declared.Action.{Action}
@@ -88,7 +91,7 @@ placed-replied a {s} {placed} {t} {cell} {r} e w h S S′ P = at (ℕ-discrete (
       wide = ap (λ y. y .width) (P .done z) ∙ w;
       high = ap (λ y. y .height) (P .done z) ∙ h;
       is = e ∙ choose-yes (decLt cell (cells s)) _ _ (place-granted s (P .rules) z .1) ∙ ap (λ y. record { after = stands y t; shown = []; line = [] }) (sym (P .done z))
-          ∙ ap (λ y. record { after = stands (r .session) t; shown = []; line = told y }) (sym (P .answer ∙ ap answered z));
+          ∙ ap (λ y. record { after = stands (r .session) t; shown = []; line = told y }) (sym (place-answer P ∙ ap answered z));
     }
     at (no n) =
         let q = placed-three (onward (S .plan .size) (P .rules)) n in
@@ -97,7 +100,7 @@ placed-replied a {s} {placed} {t} {cell} {r} e w h S S′ P = at (ℕ-discrete (
           wide = ap (λ y. y .width) (P .refused n);
           high = ap (λ y. y .height) (P .refused n);
           is = e ∙ choose-no (decLt cell (cells s)) _ _ (q .1) ∙ ap (λ y. record { after = stands y t; shown = []; line = refusedLine 3 }) (sym (P .refused n))
-              ∙ ap (λ y. record { after = stands (r .session) t; shown = []; line = told y }) (sym (P .answer ∙ ap answered (q .0)));
+              ∙ ap (λ y. record { after = stands (r .session) t; shown = []; line = told y }) (sym (place-answer P ∙ ap answered (q .0)));
         }
 
 pub hunter-replied : {s : Session} {t : Tables} {cell : ℕ} {r : Reply} → Sound s t → Places s (hunterAt s cell) cell r → Replied (Hunter cell) s t r t
@@ -130,7 +133,7 @@ change-replied {s} {t} {t′} {u} {d} {cost} {r} S P = at (ℕ-discrete (P .numb
               ∙ ap (λ y. record { after = standing (planOf (s .width) (s .height) (costs.withByte (floor s (t .plan)) u d cost .bytes)) (session s) y; shown = []; line = [] }) (sym (p .1 .is))
               ∙ ap (λ y. record { after = standing (planOf (s .width) (s .height) y) (session s) (core t′); shown = []; line = [] }) (sym (p .1 .plan))
               ∙ ap (λ y. record { after = stands y t′; shown = []; line = [] }) (sym (p .0))
-              ∙ ap (λ y. record { after = stands (r .session) t′; shown = []; line = told y }) (sym (P .answer ∙ ap answered z));
+              ∙ ap (λ y. record { after = stands (r .session) t′; shown = []; line = told y }) (sym (change-answer P ∙ ap answered z));
         }
     at (no n) =
         let p = P .refused n in
@@ -140,7 +143,7 @@ change-replied {s} {t} {t′} {u} {d} {cost} {r} S P = at (ℕ-discrete (P .numb
           high = ap (λ y. y .height) (p .0);
           is = choose-no test _ _ (λ e. n (n-is ∙ e)) ∙ ap (λ k. record { after = stands s t; shown = []; line = refusedLine k }) (sym n-is)
               ∙ ap (λ y. record { after = stands s y; shown = []; line = refusedLine (P .number) }) (sym (p .1)) ∙ ap (λ y. record { after = stands y t′; shown = []; line = refusedLine (P .number) }) (sym (p .0))
-              ∙ ap (λ y. record { after = stands (r .session) t′; shown = []; line = y }) (sym (ap told (P .answer) ∙ told-refused (P .number) n));
+              ∙ ap (λ y. record { after = stands (r .session) t′; shown = []; line = y }) (sym (ap told (change-answer P) ∙ told-refused (P .number) n));
         }
 
 -- ---- a search
@@ -150,23 +153,23 @@ module _ {s : Session} {t t′ : Tables} {way way′ : List ℕ} {r : Outcome} (
   searches = record { number = 0; rules = sound-rules S (holds long passed); refused = λ n. absurd (n refl); done = λ _. D }
 
   -- It shows no more cells than the plan has.
-  pub shown-few : toldBy (r .answer) .cells ≤ cells s
-  shown-few = at (demand-2 S way long searches .answer)
+  pub shown-few : countOf (r .answer) ≤ cells s
+  shown-few = omega (arith, at (demand-2 S way long searches .answer), count-told (r .answer) way′)
     where
-      at : {a : search-answer.Answer} {w : List ℕ} → RightlyAnswered s t way a w → toldBy a .cells ≤ cells s
+      at : {x : Told} {w : List ℕ} → RightlyAnswered s t way x w → x .count ≤ cells s
       at (caught e) = omega (arith, S .numbers .hunter-in)
       at (none-leads n f) = omega arith
       at (way-shown n c l) = l
 
   -- The line that it prints is the definition's.
-  line-is : (a : method-session.Answer) → line (answerOf a) (take (toldBy (answerOf a) .cells) (written (cellsOf a) way)) ≡ line (answerOf a) (cellsOf a)
+  line-is : (a : method-session.Answer) → line (answerOf a) (take (countOf (answerOf a)) (written (cellsOf a) way)) ≡ line (answerOf a) (cellsOf a)
   line-is (method-session.caught x) = refl
   line-is (method-session.none-leads n) = refl
   line-is (method-session.way c n l) = ap (λ k. line (answerOf (method-session.way c n l)) k) (take-append-seam l (drop (length l) way))
   line-is method-session.cut-off = refl
 
   -- What it leaves, the cells that it writes, and its line, are the definition's.
-  pub search-is : turn (stands s t) Search ≡ record { after = stands (r .session) t′; shown = cellsOf (outcome s t .answer); line = line (r .answer) (take (toldBy (r .answer) .cells) way′) }
+  pub search-is : turn (stands s t) Search ≡ record { after = stands (r .session) t′; shown = cellsOf (outcome s t .answer); line = line (r .answer) (take (countOf (r .answer)) way′) }
   unfolding turn
   search-is =
       sym (
@@ -182,14 +185,14 @@ module _ {s : Session} {t t′ : Tables} {way way′ : List ℕ} {r : Outcome} (
       with-line S l = record { after = S; shown = cellsOf (outcome s t .answer); line = l }
 
       printed : List ℕ
-      printed = line (r .answer) (take (toldBy (r .answer) .cells) way′)
+      printed = line (r .answer) (take (countOf (r .answer)) way′)
 
       printed-is : printed ≡ line (answerOf (outcome s t .answer)) (cellsOf (outcome s t .answer))
       printed-is =
-          ap (λ (a : search-answer.Answer). line a (take (toldBy a .cells) way′)) (D .answer)
-          ∙ ap (λ w. line (answerOf (outcome s t .answer)) (take (toldBy (answerOf (outcome s t .answer)) .cells) w)) (D .shown) ∙ line-is (outcome s t .answer)
+          ap (λ (a : search-answer.Answer). line a (take (countOf a) way′)) (searched-answer D)
+          ∙ ap (λ w. line (answerOf (outcome s t .answer)) (take (countOf (answerOf (outcome s t .answer))) w)) (D .shown) ∙ line-is (outcome s t .answer)
 
-  pub search-turns : {text text′ : List ℕ} {used end : ℕ} → Put text used (line (r .answer) (take (toldBy (r .answer) .cells) way′)) end text′
+  pub search-turns : {text text′ : List ℕ} {used end : ℕ} → Put text used (line (r .answer) (take (countOf (r .answer)) way′)) end text′
       → Turns Search s t way text used (record { session = r .session; used = end }) t′ way′ text′
   search-turns p = record {
     sound = demand-3 S way long searches .sound-again;

@@ -10,7 +10,7 @@ use Rattle.session.specs.declared.Reply.{Reply}
 use Rattle.session.specs.Promises.{hunterAt, targetAt, Places}
 use Rattle.change.specs.Promise.{Changes}
 use Rattle.search.specs.declared.Outcome.{Outcome}
-use Rattle.answer.specs.Answer.{toldBy, cellsOf}
+use Rattle.answer.specs.Answer.{countOf, cellsOf}
 use Rattle.search.specs.Promise.{outcome, Searches}
 use Rattle.demands.proofs.Demands.{not-refused}
 use Rattle.drill_file.specs.declared.Action.the-variants.{Change, Hunter, Target, Search}
@@ -30,5 +30,5 @@ pub change-printed : {s : Session} {t t′ : Tables} {u d cost : ℕ} {r : Reply
 change-printed S P = change-replied S P .is
 
 pub search-printed : {s : Session} {t t′ : Tables} (way : List ℕ) {way′ : List ℕ} {r : Outcome} → Sound s t → cells s ≤ length way → Searches s t way r t′ way′
-    → turn (stands s t) Search ≡ record { after = stands (r .session) t′; shown = cellsOf (outcome s t .answer); line = line (r .answer) (take (toldBy (r .answer) .cells) way′) }
+    → turn (stands s t) Search ≡ record { after = stands (r .session) t′; shown = cellsOf (outcome s t .answer); line = line (r .answer) (take (countOf (r .answer)) way′) }
 search-printed way S long P = search-is S long (not-refused way S long P)

@@ -3,7 +3,7 @@ use answer::Answer;
 ghost use Prim.Native.Nat.{_+_, _*_, _≤_, _<_};
 ghost use mathlib.Core.List.{[], _∷_, _++_};
 ghost use lib.ListN.{length, take};
-ghost use Rattle.answer.specs.Answer.{toldBy};
+ghost use Rattle.answer.specs.Answer.{countOf};
 ghost use Rattle.answer.specs.declared.Answer.the-variants.{Way};
 ghost use Rattle.lines.specs.Text.{bytes, decimal, spaced, refusedLine, line, room};
 ghost use Rattle.lines.specs.Put.{Put};
@@ -91,8 +91,8 @@ fn put_way(cost: u32, steps: usize, k: usize, way: &[u16], text: &mut [u8], at: 
 
 // Puts the line of a search's answer; the way list has its cells.
 pub fn put_answer(answer: Answer, way: &[u16], text: &mut [u8], at: usize) -> usize
-    requires { ⌜ (toldBy answer .cells ≤ length (now way)) × (at + room (toldBy answer .cells) ≤ length (now text)) ⌝ }
-    ensures { λ r. ⌜ Put (now (text .entry)) at (line answer (take (toldBy answer .cells) (now (way .entry)))) r (now (text .exit)) ⌝ }
+    requires { ⌜ (countOf answer ≤ length (now way)) × (at + room (countOf answer) ≤ length (now text)) ⌝ }
+    ensures { λ r. ⌜ Put (now (text .entry)) at (line answer (take (countOf answer) (now (way .entry)))) r (now (text .exit)) ⌝ }
 {
     match answer {
         Answer::Caught(cell) => put_labelled(b"caught at ", cell as u64, text, at),
