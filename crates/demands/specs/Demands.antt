@@ -71,5 +71,6 @@ pub record TakesTheSteps (s : Session) (t : Tables) (way : List ℕ) (r : Outcom
 pub record FewSteps (s : Session) (t : Tables) (r : Outcome) (t′ : Tables) : Type 0 where
   pub at-most-3N : length (stepsOf s t) ≤ 3 * cells s
   pub no-step-twice : Once (stepsOf s t)
+  -- whatever stands in the way list
   pub reported : (way : List ℕ) → toldBy (r .answer) way .steps ≡ length (stepsOf s t)
   pub sound-again : Sound (r .session) t′
