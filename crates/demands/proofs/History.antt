@@ -1,16 +1,14 @@
 -- Every history of public calls: sound tables at every point, right answers in few steps at every search, no number past its width. specs/History.antt says what this means.
 use mathlib.Core.Path.{_≡_, sym, ap, subst, _∙_}
-use mathlib.Core.Logic.{_⊎_, inl, inr, _≢_}
+use mathlib.Core.Logic.{_≢_}
 use mathlib.Core.List.{List}
-use Prim.Native.Nat.{ℕ, _+_, _*_, _≤_, _<_}
+use Prim.Native.Nat.{ℕ, _+_}
 use native.Mathlib.Omega.{arith}
 use native.Mathlib.Decide.{ℕ-discrete}
-use Rattle.method.specs.Numbers.{infinite, mostCost, mostSearches, growth}
-use Rattle.method.specs.Graph.{Graph, GraphLaws}
-use Rattle.method.specs.Tables as tables
+use Rattle.method.specs.Numbers.{growth}
+use Rattle.method.specs.Graph.{GraphLaws}
 use Rattle.method.specs.Session as calls
-use Rattle.method.specs.Sound as method-sound
-use Rattle.method.specs.Growth.{FiniteUpTo, RaisesAtMost}
+use Rattle.method.specs.Growth.{NumbersFit, FiniteUpTo, RaisesAtMost}
 use Rattle.method.proofs.Growth.{up-to-more}
 use Rattle.method.proofs.Theorems as method
 use Rattle.plan.proofs.GridLaws.{graph-laws}
@@ -27,7 +25,7 @@ use Rattle.search.specs.declared.Outcome.{Outcome}
 use Rattle.search.specs.Promise.{Searches}
 use Rattle.search.proofs.RefusalLaws.{search-granted}
 use Rattle.demands.specs.History.{Call, places-hunter, places-target, changes-move, searches, opens-again, open-refused}
-use Rattle.demands.specs.History.{History, opened, from-sound, and-then, now, before, PointOf, last, earlier, SearchOf, NumbersFit, afterSteps, EveryOrder}
+use Rattle.demands.specs.History.{History, opened, from-sound, and-then, now, before, PointOf, last, earlier, SearchOf, afterSteps, EveryOrder}
 use Rattle.demands.proofs.Demands.{demand-2, demand-3}
 
 -- ---- sound tables
@@ -76,43 +74,6 @@ promise-of (earlier x) = promise-of x
 
 -- ---- numbers
 
-module _ {G : Graph} (L : GraphLaws G) {σ : calls.Session} {T : tables.Tables} (S : method-sound.Sound G σ T) where
-  -- g and a cost
-  sum-fit : (x cost : ℕ) → x < G .cells → cost ≤ mostCost → (tables.gAt T x ≡ infinite) ⊎ (tables.gAt T x + cost < infinite)
-  sum-fit x cost l h = at (ℕ-discrete (tables.gAt T x) infinite)
-    where
-      at : Dec (tables.gAt T x ≡ infinite) → (tables.gAt T x ≡ infinite) ⊎ (tables.gAt T x + cost < infinite)
-      at (yes e) = inl e
-      at (no n) = inr (method.sum-below L S x cost l n h)
-
-  -- rhs, whatever the search number is
-  rhs-fit : (x : ℕ) → (tables.rhsAt T x ≡ infinite) ⊎ (tables.rhsAt T x ≤ growth * σ .searches + mostCost) → (tables.rhsAt T x ≡ infinite) ⊎ (tables.rhsAt T x ≤ growth * mostSearches + mostCost)
-  rhs-fit x (inl e) = inl e
-  rhs-fit x (inr h) = inr (omega (arith, S .searches-le))
-
-  -- the lesser number is infinite or below
-  key-fit : (x : ℕ) → x < G .cells → (tables.rhsAt T x ≡ infinite) ⊎ (tables.rhsAt T x ≤ growth * mostSearches + mostCost)
-      → (tables.lesser T x ≡ infinite) ⊎ (tables.lesser T x + G .estimate x (σ .lastTarget) + σ .km < infinite)
-  key-fit x l r = at r (S .g-le x l) (ℕ-discrete (tables.lesser T x) infinite)
-    where
-      at : (tables.rhsAt T x ≡ infinite) ⊎ (tables.rhsAt T x ≤ growth * mostSearches + mostCost) → (tables.gAt T x ≡ infinite) ⊎ (tables.gAt T x ≤ growth * σ .searches)
-          → Dec (tables.lesser T x ≡ infinite) → (tables.lesser T x ≡ infinite) ⊎ (tables.lesser T x + G .estimate x (σ .lastTarget) + σ .km < infinite)
-      at a b (yes e) = inl e
-      at (inl a) (inl b) (no n) = inr (method.key-below L S x l (omega (arith, n)))
-      at (inl a) (inr b) (no n) = inr (method.key-below L S x l (omega (arith, n, S .searches-le)))
-      at (inr a) b (no n) = inr (method.key-below L S x l (omega (arith, n)))
-
-  -- No number of sound tables passes its width.
-  pub numbers-fit : NumbersFit G σ T
-  numbers-fit = record {
-    sum = sum-fit;
-    rhs = λ x l. rhs-fit x (method.rhs-below L S x l);
-    key = λ x l. key-fit x l (rhs-fit x (method.rhs-below L S x l));
-    stored = λ x l q. method.queued-below L S x l q .2;
-    km = omega (arith, S .km-le, S .searches-le);
-    searches = S .searches-le;
-  }
-
 -- The plan of sound tables is a graph of the method.
 laws-of : {s : Session} {t : Tables} → Sound s t → GraphLaws (graph s t)
 laws-of {s} {t} S = graph-laws (floor s (t .plan)) (S .plan .size)
@@ -131,11 +92,11 @@ raises-at-most {s} {t} {t′} way P most F = at (ℕ-discrete (P .number) 0)
 
 -- The numbers at a point of a history.
 sound-fit : {s : Session} {t : Tables} → Sound s t → NumbersFit (graph s t) (session s) (core t)
-sound-fit S = numbers-fit (laws-of S) (S .numbers)
+sound-fit S = method.sound-numbers-fit (laws-of S) (S .numbers)
 
 -- After any number of steps of a search from there.
 steps-fit : {s : Session} {t : Tables} → Sound s t → (n : ℕ) → NumbersFit (graph s t) (calls.counted (calls.takenOver (graph s t) (session s) (core t) .session)) (afterSteps s t n)
-steps-fit S n = numbers-fit (laws-of S) (method.every-step-sound (laws-of S) (S .numbers) n)
+steps-fit S n = method.sound-numbers-fit (laws-of S) (method.every-step-sound (laws-of S) (S .numbers) n)
 
 -- The letter's "every order of door changes and moves between two searches".
 pub every-order : {s : Session} {t : Tables} (h : History s t) → EveryOrder h

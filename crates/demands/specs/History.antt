@@ -1,17 +1,14 @@
 -- "Every order of door changes and moves between two searches": a history is any sequence of public calls, each done or refused; `EveryOrder` says what holds at every point and of every search of it.
 -- proofs/History.antt proves it of every history.
 use mathlib.Core.Path.{_≡_}
-use mathlib.Core.Logic.{_⊎_, _≢_}
-use mathlib.Core.Bool.{true}
+use mathlib.Core.Logic.{_≢_}
 use mathlib.Core.List.{List}
-use Prim.Native.Nat.{ℕ, _+_, _*_, _≤_, _<_}
-use lib.ListN.{length, getD}
-use Rattle.method.specs.Numbers.{infinite, mostCost, mostEstimate, mostSearches, growth}
-use Rattle.method.specs.Graph.{Graph}
+use Prim.Native.Nat.{ℕ, _≤_}
+use lib.ListN.{length}
 use Rattle.method.specs.Tables as method
 use Rattle.method.specs.Loop.{run}
 use Rattle.method.specs.Session as calls
-use Rattle.method.specs.Growth.{RaisesAtMost}
+use Rattle.method.specs.Growth.{NumbersFit, RaisesAtMost}
 use Rattle.tables.specs.declared.Session.{Session}
 use Rattle.tables.specs.Lent.{Tables, cells, graph, session, core}
 use Rattle.tables.specs.Sound.{Sound}
@@ -58,28 +55,12 @@ pub data Search (s₁ : Session) (t₁ : Tables) (way : List ℕ) (r : Outcome) 
 abbrev pub SearchOf : {s : Session} {t : Tables} → History s t → Session → Tables → List ℕ → Outcome → Tables → List ℕ → Type 0
 SearchOf {s} {t} h s₁ t₁ way r t₂ way₂ = Search s₁ t₁ way r t₂ way₂ s t h
 
--- ---- numbers
+-- ---- what holds of a history
 
--- "A station left running until its sums of distances reach the end of their width": no number is lost there. Each is infinite, or below infinite with all that is ever added to it.
-pub record NumbersFit (G : Graph) (σ : calls.Session) (T : method.Tables) : Type 0 where
-  -- a g and a cost
-  pub sum : (x cost : ℕ) → x < G .cells → cost ≤ mostCost → (method.gAt T x ≡ infinite) ⊎ (method.gAt T x + cost < infinite)
-  -- rhs: at most 1,024,250,250
-  pub rhs : (x : ℕ) → x < G .cells → (method.rhsAt T x ≡ infinite) ⊎ (method.rhsAt T x ≤ growth * mostSearches + mostCost)
-  -- the first number of the calculated key: the lesser of g and rhs, an estimate and km
-  pub key : (x : ℕ) → x < G .cells → (method.lesser T x ≡ infinite) ⊎ (method.lesser T x + G .estimate x (σ .lastTarget) + σ .km < infinite)
-  -- the first number of a stored key
-  pub stored : (x : ℕ) → x < G .cells → method.queuedAt T x ≡ true → getD (T .k1) x 0 < infinite
-  -- km and one more estimate; the search number
-  pub km : σ .km + mostEstimate < infinite
-  pub searches : σ .searches ≤ mostSearches
-
--- The method's state after the take-over and n steps of a search, for any n.
+-- The method's tables after the take-over and n steps of a search, for any n.
 abbrev pub afterSteps : Session → Tables → ℕ → method.Tables
 afterSteps s t n =
     run (calls.huntOf (graph s t) (calls.takenOver (graph s t) (session s) (core t) .session)) n (calls.takenOver (graph s t) (session s) (core t) .tables) .tables
-
--- ---- what holds of a history
 
 -- What holds at every point and of every search of the history h, in whatever order its calls came.
 pub record EveryOrder {s : Session} {t : Tables} (h : History s t) : Type 0 where

@@ -109,7 +109,8 @@ cases =
     -- "2 by 1, both shut: none, steps 1. Then hunter to 1, target to 0: rhs of 1 is infinite, fresh start, none, steps 1." The search number is 1 again.
     ∷ case (bothShut ++ ask ++ hunter 1 ++ target 0 ++ ask ++ trailer 2 1 0 1 4 8) (bytes "none steps 1\nnone steps 1\n") ((lowers 0 0 ∷ []) ∷ (lowers 1 0 ∷ []) ∷ []) 1
     -- "A change to 250 stands, to 251 is 5, to 255 stands." A search after each tells what the move costs.
-    ∷ case (bothOpen ++ change 0 1 250 ++ ask ++ change 0 1 251 ++ ask ++ change 0 1 255 ++ ask ++ trailer 2 1 0 1 6 8) (bytes "way 250 steps 1: 0 1\nrefused 5\nway 250 steps 0: 0 1\nnone steps 0\n") ((lowers 0 0 ∷ []) ∷ [] ∷ [] ∷ []) 3
+    ∷ case (bothOpen ++ change 0 1 250 ++ ask ++ change 0 1 251 ++ ask ++ change 0 1 255 ++ ask ++ trailer 2 1 0 1 6 8)
+    (bytes "way 250 steps 1: 0 1\nrefused 5\nway 250 steps 0: 0 1\nnone steps 0\n") ((lowers 0 0 ∷ []) ∷ [] ∷ [] ∷ []) 3
     -- "Cell N with cost 0 together: 3."
     ∷ case (bothOpen ++ change 2 1 0 ++ trailer 2 1 0 1 1 8) (bytes "refused 3\n") [] 0
     ∷ []

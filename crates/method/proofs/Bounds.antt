@@ -1,6 +1,6 @@
 -- How large the numbers grow: what holds between the steps of a search.
 use mathlib.Core.Path.{_≡_, refl}
-use mathlib.Core.Logic.{_⊎_, inl, inr}
+use mathlib.Core.Logic.{_⊎_, inl, inr, _≢_}
 use Prim.Native.Nat.{ℕ, _+_, _*_, _≤_, _<_}
 use native.Mathlib.Omega.{arith}
 use native.Mathlib.Decide.{ℕ-discrete}
@@ -21,6 +21,14 @@ pub record Bound (H : Hunt) (B : ℕ) (T : Tables) : Type 0 where
 pub finite-le : {n B : ℕ} → (n ≡ infinite) ⊎ (n ≤ B) → n < infinite → n ≤ B
 finite-le (inl e) f = absurd (omega arith)
 finite-le (inr h) f = h
+
+-- A number is infinite, or has what every finite one has.
+pub or-infinite : {P : Type 0} (n : ℕ) → (n ≢ infinite → P) → (n ≡ infinite) ⊎ P
+or-infinite {P} n f = at (ℕ-discrete n infinite)
+  where
+    at : Dec (n ≡ infinite) → (n ≡ infinite) ⊎ P
+    at (yes e) = inl e
+    at (no m) = inr (f m)
 
 -- What is within a bound is within a greater one.
 pub bound-more : {H : Hunt} {A B : ℕ} {T : Tables} → A ≤ B → Bound H A T → Bound H B T
@@ -60,6 +68,7 @@ pub record During (H : Hunt) (A : ℕ) (T : Tables) : Type 0 where
   pub bound : Bound H B T
   pub room : B + mostCost * lacking lower H last T ≤ A + mostCost * H .graph .cells
 
+-- What holds at the start of a search whose numbers are within A.
 pub starts : {H : Hunt} {A : ℕ} {T : Tables} → Stands H → most H A + mostCost + mostEstimate + H .km < infinite → Sized (H .graph .cells) T → Right H T → Bound H A T
     → During H A T
 starts {H} {A} {T} L fits z R b = record {
@@ -131,18 +140,10 @@ module _ {H : Hunt} {A : ℕ} {T : Tables} (D : During H A T) where
 
   -- every number is infinite, or small enough to be added to
   pub g-most : (s : ℕ) → s < H .graph .cells → (gAt T s ≡ infinite) ⊎ (gAt T s + mostCost ≤ most H A)
-  g-most s l = at (ℕ-discrete (gAt T s) infinite)
-    where
-      at : Dec (gAt T s ≡ infinite) → (gAt T s ≡ infinite) ⊎ (gAt T s + mostCost ≤ most H A)
-      at (yes e) = inl e
-      at (no n) = inr (omega (arith, D .bound .g s l (omega (arith, n, D .right .g-le s l)), D .room))
+  g-most s l = or-infinite (gAt T s) (λ n. omega (arith, D .bound .g s l (omega (arith, n, D .right .g-le s l)), D .room))
 
   pub rhs-most : (s : ℕ) → s < H .graph .cells → (rhsAt T s ≡ infinite) ⊎ (rhsAt T s ≤ most H A)
-  rhs-most s l = at (ℕ-discrete (rhsAt T s) infinite)
-    where
-      at : Dec (rhsAt T s ≡ infinite) → (rhsAt T s ≡ infinite) ⊎ (rhsAt T s ≤ most H A)
-      at (yes e) = inl e
-      at (no n) = inr (omega (arith, rhs-bound (D .stands) (D .right) (D .bound) s l (omega (arith, n, rhs-le H T (D .right) s l)), D .room))
+  rhs-most s l = or-infinite (rhsAt T s) (λ n. omega (arith, rhs-bound (D .stands) (D .right) (D .bound) s l (omega (arith, n, rhs-le H T (D .right) s l)), D .room))
 
   -- a queued cell's lesser number is finite, and a finite one is small
   pub lesser-finite : (s : ℕ) → s < H .graph .cells → Inconsistent T s → lesser T s < infinite

@@ -24,7 +24,7 @@ up-to-more {least = least} {greater = greater} h F = record { g = λ s l. at (F 
     at (inr l) = inr (omega arith)
 
 -- Between the steps no finite number is above what the search's start allows.
-during-up-to : {H : Hunt} {A : ℕ} {T : Tables} → During H A T → FiniteUpTo (H .graph .cells) (most H A) T
+pub during-up-to : {H : Hunt} {A : ℕ} {T : Tables} → During H A T → FiniteUpTo (H .graph .cells) (most H A) T
 during-up-to {H} {A} D = record { g = λ s l. at (g-most D s l); rhs = rhs-most D }
   where
     at : {n : ℕ} → (n ≡ infinite) ⊎ (n + 250 ≤ most H A) → (n ≡ infinite) ⊎ (n ≤ most H A)

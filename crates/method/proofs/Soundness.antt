@@ -14,7 +14,7 @@ use Rattle.method.specs.Sound.{Sound}
 use Rattle.method.proofs.Notions.{Stands, Inconsistent, LeastAt, Right}
 use Rattle.method.proofs.Facts.{rhs-le}
 use Rattle.method.proofs.Keeping.{Held, held-right, held-same}
-use Rattle.method.proofs.Bounds.{Bound, finite-le}
+use Rattle.method.proofs.Bounds.{Bound, finite-le, or-infinite}
 use Rattle.method.proofs.LeastSums.{least-cast}
 use Rattle.method.proofs.Entries.{key-finite, Reset}
 
@@ -72,7 +72,7 @@ right-sound {G} {σ} {T} W z R b = record {
   absent = λ s l q. zero s l q (ℕ-discrete (gAt T s) (rhsAt T s));
   searches-le = W .searches-le;
   km-le = W .km-le;
-  g-le = λ s l. g-le s l (ℕ-discrete (gAt T s) infinite);
+  g-le = λ s l. or-infinite (gAt T s) (λ n. b .g s l (omega (arith, n, R .g-le s l)));
   hunter-le = b .hunter;
 }
   where
@@ -82,10 +82,6 @@ right-sound {G} {σ} {T} W z R b = record {
     zero : (s : ℕ) → s < G .cells → queuedAt T s ≡ false → Dec (gAt T s ≡ rhsAt T s) → (getD (T .k1) s 0 ≡ 0) × (getD (T .k2) s 0 ≡ 0)
     zero s l q (yes e) = omega (arith, R .queue s l .idle e)
     zero s l q (no n) = absurd (false≢true (sym q ∙ R .queue s l .in-queue n))
-
-    g-le : (s : ℕ) → s < G .cells → Dec (gAt T s ≡ infinite) → (gAt T s ≡ infinite) ⊎ (gAt T s ≤ growth * σ .searches)
-    g-le s l (yes e) = inl e
-    g-le s l (no n) = inr (b .g s l (omega (arith, n, R .g-le s l)))
 
 -- Right tables after one cell v was reset, where all the others were right.
 pub reset-right : {H : Hunt} {T E : Tables} {v r p : ℕ} → Reset H T E v r p → ((s : ℕ) → s < H .graph .cells → gAt T s ≤ infinite)

@@ -6,9 +6,9 @@ use mathlib.Core.Option.{Option, none, some}
 use mathlib.Core.List.{List, []}
 use Prim.Native.Nat.{ℕ, zero, suc, _+_, _-_, _*_, _≤_, _<_}
 use native.Mathlib.Omega.{arith}
-use native.Mathlib.Decide.{ℕ-discrete, decLt}
+use native.Mathlib.Decide.{decLt}
 use lib.ListN.{length, getD}
-use Rattle.method.specs.Numbers.{infinite, mostCost, mostEstimate, growth}
+use Rattle.method.specs.Numbers.{infinite, mostCost, mostEstimate, mostSearches, growth}
 use Rattle.method.specs.Graph.{Graph, GraphLaws, Hunt}
 use Rattle.method.specs.Tables.{Tables, Sized, gAt, rhsAt, queuedAt, keyNumber, lesser, firstKey}
 use Rattle.method.specs.Steps.{stepped}
@@ -18,11 +18,11 @@ use Rattle.method.specs.Session.{Session, huntOf, opened, fresh, hunterP
 use Rattle.method.specs.Sound.{Sound}
 use Rattle.method.specs.Walk.{NoChain, RightAnswer, none-there, way-there, Once, none-yet}
 use Rattle.method.specs.Change.{Altered}
-use Rattle.method.specs.Growth.{RaisesAtMost}
+use Rattle.method.specs.Growth.{NumbersFit, RaisesAtMost}
 use Rattle.method.proofs.Choices.{differ}
 use Rattle.method.proofs.Notions.{Inconsistent}
 use Rattle.method.proofs.Facts.{rhs-le}
-use Rattle.method.proofs.Bounds.{rhs-bound, lesser-finite, sum-fits, key-fits}
+use Rattle.method.proofs.Bounds.{or-infinite, rhs-bound, lesser-finite, sum-fits, key-fits}
 use Rattle.method.proofs.Entries.{first-finite}
 use Rattle.method.proofs.Taking.{least-is, least-one, least-cell, none-queued, next-some, next-none, next-is}
 use Rattle.method.proofs.Running.{stepOn, run-zero, run-none, run-some}
@@ -182,11 +182,8 @@ module _ {G : Graph} (L : GraphLaws G) {σ : Session} {T : Tables} (S : Sound G 
 
   -- every rhs, which is infinite or at most one cost above the bound on g;
   pub rhs-below : (s : ℕ) → s < G .cells → (rhsAt T s ≡ infinite) ⊎ (rhsAt T s ≤ growth * σ .searches + mostCost)
-  rhs-below s l = at (ℕ-discrete (rhsAt T s) infinite)
-    where
-      at : Dec (rhsAt T s ≡ infinite) → (rhsAt T s ≡ infinite) ⊎ (rhsAt T s ≤ growth * σ .searches + mostCost)
-      at (yes e) = inl e
-      at (no n) = inr (rhs-bound (sound-stands S L) (sound-right S) (sound-bound S) s l (omega (arith, n, rhs-le (huntOf G σ) T (sound-right S) s l)))
+  rhs-below s l =
+      or-infinite (rhsAt T s) (λ n. rhs-bound (sound-stands S L) (sound-right S) (sound-bound S) s l (omega (arith, n, rhs-le (huntOf G σ) T (sound-right S) s l)))
 
   -- the first key number of a cell with a finite lesser number;
   pub key-below : (s : ℕ) → s < G .cells → lesser T s < infinite → lesser T s + G .estimate s (σ .lastTarget) + σ .km < infinite
@@ -199,6 +196,21 @@ module _ {G : Graph} (L : GraphLaws G) {σ : Session} {T : Tables} (S : Sound G 
       let f : lesser T s < infinite = lesser-finite (sound-during L S) s l n in
       let h : lesser T s + G .estimate s (σ .lastTarget) + σ .km < infinite = key-below s l f in
       (omega (arith, first-finite (huntOf G σ) s (lesser T s) f), f, omega (arith, sound-right S .keys s l n))
+
+  -- So no number of sound tables is lost at the end of its width.
+  pub sound-numbers-fit : NumbersFit G σ T
+  sound-numbers-fit = record {
+    sum = λ s cost l h. or-infinite (gAt T s) (λ n. sum-below s cost l n h);
+    rhs = λ s l. at (rhs-below s l);
+    key = λ s l. or-infinite (lesser T s) (λ n. key-below s l (omega (arith, n, sound-right S .g-le s l)));
+    stored = λ s l q. queued-below s l q .2;
+    km = omega (arith, S .km-le, S .searches-le);
+    searches = S .searches-le;
+  }
+    where
+      at : {r : ℕ} → (r ≡ infinite) ⊎ (r ≤ growth * σ .searches + mostCost) → (r ≡ infinite) ⊎ (r ≤ growth * mostSearches + mostCost)
+      at (inl e) = inl e
+      at (inr h) = inr (omega (arith, S .searches-le))
 
   -- A search raises the greatest finite number by at most 1,024,250.
   pub raises-at-most : RaisesAtMost (G .cells) T (search G σ T .tables)

@@ -39,7 +39,7 @@ pub record Searched (s : Session) (t : Tables) (way : List ℕ) (r : Outcome) (t
   pub shown : way′ ≡ written (cellsOf (outcome s t .answer)) way
   pub caught : s .hunter ≡ s .target → (r .session ≡ s) × (t′ ≡ t)
   pub untouched : s .hunter ≡ s .origin → s .searches ≢ mostSearches → outcome s t .steps ≡ [] → (r .session .count ≡ s .count) × (t′ ≡ t)
-  -- no steps, and nothing starts fresh: where the entry of the hunter before is what it was, list and places stay
+  -- no steps, and nothing starts fresh: where the old hunter's entry, found anew, is what it was, list and places stay
   pub kept : s .searches ≢ mostSearches → getD (t .rhs) (s .hunter) 0 ≢ infinite → outcome s t .steps ≡ []
       → EntryKept (s .count) (t .k1) (t .k2) (t .place) (t .list) (r .session .count) (t′ .k1) (t′ .k2) (t′ .place) (t′ .list)
 

@@ -1,18 +1,20 @@
 -- The loop over the tables is the method's run.
 use mathlib.Core.Path.{_≡_, refl, sym, ap, subst, _∙_}
 use mathlib.Core.Bool.{Bool, true, false}
-use mathlib.Core.Logic.{_⊎_, inl, inr, ⊎-elim, _≢_}
+use mathlib.Core.Logic.{⊎-elim, _≢_}
 use mathlib.Core.Option.{some}
 use mathlib.Core.List.{List, []}
 use Prim.Native.Nat.{ℕ, suc, _+_, _-_, _*_, _≤_, _<_}
 use native.Mathlib.Omega.{arith}
 use lib.ListN.{getD, length}
-use Rattle.method.specs.Numbers.{infinite, mostCost}
+use Rattle.method.specs.Numbers.{infinite}
 use Rattle.method.specs.Graph.{Hunt}
 use Rattle.method.specs.Tables as method
 use Rattle.method.specs.Steps.{stepped}
 use Rattle.method.specs.Loop.{nextCell, isNone, after, run}
-use Rattle.method.proofs.Bounds.{During, most, g-most, rhs-most}
+use Rattle.method.specs.Growth.{FiniteUpTo}
+use Rattle.method.proofs.Bounds.{During, most}
+use Rattle.method.proofs.Growth.{up-to-more, during-up-to}
 use Rattle.method.proofs.Running.{run-zero, run-none, run-some, pick-next, during-step, stepOn}
 use Rattle.method.proofs.Stepping.{stepped-sized}
 use Rattle.tables.specs.Lent.{Tables, tables, core}
@@ -65,12 +67,17 @@ pub going-first : {a : Aim} {count : ℕ} {plan g rhs parent k1 k2 place list : 
     → Going a plan count count (tables plan g rhs parent k1 k2 place list) (tables plan g rhs parent k1 k2 place list) limit 0
 going-first {a} {plan = plan} limit S = record { held = S .held; bound = S .bound; during = S .during; small = S .small; rest = rest-first (hunt a plan) _ limit; untouched = λ _. (refl, refl) }
 
-module _ {a : Aim} {count₀ count limit steps : ℕ} {t₀ : Tables} {plan g rhs parent k1 k2 place list : List ℕ} (A : Aimed a plan) (G : Going a plan count₀ count t₀ (tables plan g rhs parent k1 k2 place list) limit steps) where
+module _ {a : Aim} {count₀ count limit steps : ℕ} {t₀ : Tables} {plan g rhs parent k1 k2 place list : List ℕ}
+    (A : Aimed a plan) (G : Going a plan count₀ count t₀ (tables plan g rhs parent k1 k2 place list) limit steps) where
+  -- the numbers that the inner functions add to
+  small : FiniteUpTo (area a) mostG (core (tables plan g rhs parent k1 k2 place list))
+  small = up-to-more (G .small) (during-up-to (G .during))
+
   pub g-small : Small mostG g
-  g-small = small-by g (area a) (G .held .sized .g) (λ k l. ⊎-elim (λ (e : getD g k 0 ≡ infinite). inl e) (λ (h : getD g k 0 + mostCost ≤ most (hunt a plan) (G .bound)). inr (omega (arith, G .small))) (g-most (G .during) k l))
+  g-small = small-by g (area a) (G .held .sized .g) (small .g)
 
   pub rhs-small : Small mostG rhs
-  rhs-small = small-by rhs (area a) (G .held .sized .rhs) (λ k l. ⊎-elim (λ (e : getD rhs k 0 ≡ infinite). inl e) (λ (h : getD rhs k 0 ≤ most (hunt a plan) (G .bound)). inr (omega (arith, G .small))) (rhs-most (G .during) k l))
+  rhs-small = small-by rhs (area a) (G .held .sized .rhs) (small .rhs)
 
   pub choosing : Choosing a count g rhs k1 k2 place list
   choosing = record {
@@ -116,19 +123,22 @@ module _ {a : Aim} {count₀ count steps : ℕ} {plan g₀ rhs₀ parent₀ k1�
   }
 
   -- no next cell: the search has ended
-  pub finished-done : {r : Choice} → r ≡ Done → Chosen a g rhs k1 k2 place r → Finished a count₀ (tables plan g₀ rhs₀ parent₀ k1₀ k2₀ place₀ list₀) (tables plan g rhs parent k1 k2 place list) count steps true
+  pub finished-done : {r : Choice} → r ≡ Done → Chosen a g rhs k1 k2 place r
+      → Finished a count₀ (tables plan g₀ rhs₀ parent₀ k1₀ k2₀ place₀ list₀) (tables plan g rhs parent k1 k2 place list) count steps true
   finished-done e C = finished-by (ap (λ r. r .tables) none-left) (ap (λ r. length (r .steps)) none-left) (ap (λ r. r .ended) none-left)
     where
       none-left : run (hunt a plan) (3 * area a - steps) (core (tables plan g rhs parent k1 k2 place list)) ≡ record { tables = core (tables plan g rhs parent k1 k2 place list); steps = []; ended = true }
       none-left = run-none (hunt a plan) (3 * area a - steps) (core (tables plan g rhs parent k1 k2 place list)) (sym (C plan parent list) ∙ ap nextOf e)
 
   -- the limit is reached and there is a next cell: the search was cut off
-  pub finished-cut : {u : ℕ} {r : Choice} → r ≡ On u → Chosen a g rhs k1 k2 place r → 3 * area a ≤ steps → Finished a count₀ (tables plan g₀ rhs₀ parent₀ k1₀ k2₀ place₀ list₀) (tables plan g rhs parent k1 k2 place list) count steps false
+  pub finished-cut : {u : ℕ} {r : Choice} → r ≡ On u → Chosen a g rhs k1 k2 place r → 3 * area a ≤ steps
+      → Finished a count₀ (tables plan g₀ rhs₀ parent₀ k1₀ k2₀ place₀ list₀) (tables plan g rhs parent k1 k2 place list) count steps false
   unfolding isNone
   finished-cut {u} e C l = finished-by (ap (λ r. r .tables) cut) (ap (λ r. length (r .steps)) cut) (ap (λ r. r .ended) cut ∙ ap isNone (sym (C plan parent list) ∙ ap nextOf e))
     where
       over : (limit steps : ℕ) → limit ≤ steps → limit - steps ≡ 0
       over limit steps h = omega arith
 
-      cut : run (hunt a plan) (3 * area a - steps) (core (tables plan g rhs parent k1 k2 place list)) ≡ record { tables = core (tables plan g rhs parent k1 k2 place list); steps = []; ended = isNone (nextCell (hunt a plan) (core (tables plan g rhs parent k1 k2 place list))) }
+      cut : run (hunt a plan) (3 * area a - steps) (core (tables plan g rhs parent k1 k2 place list))
+          ≡ record { tables = core (tables plan g rhs parent k1 k2 place list); steps = []; ended = isNone (nextCell (hunt a plan) (core (tables plan g rhs parent k1 k2 place list))) }
       cut = ap (λ n. run (hunt a plan) n (core (tables plan g rhs parent k1 k2 place list))) (over (3 * area a) steps l) ∙ run-zero (hunt a plan) (core (tables plan g rhs parent k1 k2 place list))

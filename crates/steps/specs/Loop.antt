@@ -17,7 +17,7 @@ pub record Started (a : Aim) (count : ℕ) (t : Tables) : Type 0 where
   pub during : During (hunt a (t .plan)) bound (core t)
   pub small : most (hunt a (t .plan)) bound ≤ mostG
 
--- What it leaves: the tables of the method's run of at most 3N steps, a true heap again, the number of those steps, and whether the search ended.
+-- What it leaves of `count₀` queued cells and the tables t: the tables of the method's run of at most 3N steps, a true heap again, the number of those steps, and whether the search ended.
 pub record Finished (a : Aim) (count₀ : ℕ) (t t′ : Tables) (count steps : ℕ) (ended : Bool) : Type 0 where
   pub tables : Became a count t′ (run (hunt a (t .plan)) (3 * area a) (core t) .tables)
   pub steps-are : steps ≡ length (run (hunt a (t .plan)) (3 * area a) (core t) .steps)
