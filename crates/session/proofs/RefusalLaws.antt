@@ -12,7 +12,9 @@ use Rattle.tables.proofs.SoundLaws.{sound-fits}
 use Rattle.entries.specs.Begin.{Openable}
 use Rattle.session.specs.declared.Answer.{Answer}
 use Rattle.session.specs.declared.Answer.the-variants.{Done, Refused}
+use Rattle.session.specs.declared.Reply.{Reply}
 use Rattle.session.specs.Refusals.{Ruled, fails, holds, Passed, passed, toldBy, answered, PlaceRules, OpenRules, TableRules}
+use Rattle.session.specs.Promises.{Places}
 
 -- ---- what is told
 
@@ -48,6 +50,15 @@ answered-told (suc n) = refl
 
 pub answer-is : (a : Answer) (n : ℕ) → toldBy a ≡ toldNumber n → a ≡ answered n
 answer-is a n e = told-alike a (answered n) (e ∙ answered-told n)
+
+-- ---- a placing's reply, by the number of its rules
+
+-- Refused: the record as it came. Done: the record with the cell placed.
+pub placing-refused : {s placed : Session} {cell number : ℕ} {r : Reply} → r .session ≡ s → r .answer ≡ Refused number → PlaceRules s cell number → number ≢ 0 → Places s placed cell r
+placing-refused {number = n} e a rules k = record { number = n; rules = rules; answer = ap toldBy a ∙ refusal-told n k; refused = λ _. e; done = λ z. absurd (k z) }
+
+pub placing-done : {s placed : Session} {cell number : ℕ} {r : Reply} → r .session ≡ placed → r .answer ≡ Done → PlaceRules s cell number → number ≡ 0 → Places s placed cell r
+placing-done {number = n} e a rules z = record { number = n; rules = rules; answer = ap toldBy a ∙ done-told n z; refused = λ k. absurd (k z); done = λ _. e }
 
 -- ---- one number
 
