@@ -38,6 +38,7 @@ use Rattle.search.proofs.SearchLaws.{searched-answer}
 
 -- ---- 1
 
+-- Faulty input is refused by number and changes nothing.
 pub demand-1 : RefusesByNumber
 demand-1 = record {
   place = λ {s} P R n. let e = place-number s (P .rules) R in (P .answer ∙ ap toldNumber e ∙ sym (refusal-told _ n), P .refused (λ z. n (sym e ∙ z)));
@@ -87,7 +88,9 @@ module _ {s : Session} {t : Tables} (S : Sound s t) where
 
     pub demand-2 : TakesTheSteps s t way r t′ way′
     demand-2 = record {
-      steps = λ n. subst (λ T. Runs (calls.huntOf (graph s t) (calls.takenOver (graph s t) (session s) (core t) .session)) (calls.takenOver (graph s t) (session s) (core t) .tables) (stepsOf s t) T) (sym (done .tables-are)) (method.search-is-course laws (S .numbers) n);
+      steps = λ n.
+          let σ = calls.takenOver (graph s t) (session s) (core t) in
+          subst (λ T. Runs (calls.huntOf (graph s t) (σ .session)) (σ .tables) (stepsOf s t) T) (sym (done .tables-are)) (method.search-is-course laws (S .numbers) n);
       answer = answered-right;
       none-exactly = λ n. at n answered-right;
     }
@@ -174,6 +177,7 @@ module _ {s : Session} {t t′ : Tables} (way : List ℕ) {way′ : List ℕ} {r
       to f (yes z) = subst (SearchRules s t way) z (P .rules)
       to f (no n) = absurd (f (ap (λ (x : Told). x .name) (P .refused n .0)))
 
+-- "Given exactly when": both ways.
 pub demand-1-exactly : RefusesExactly
 demand-1-exactly = record {
   place = λ {s} P. exactly (λ k. place-number s (P .rules)) (P .rules) (P .answer);

@@ -25,6 +25,7 @@ pub record RightlyTold (s : Session) (t : Tables) (way : List ℕ) (r : Reply) (
   pub right : RightlyAnswered s t way told way′
   pub reply : r ≡ replyOf (r .session) told
 
+-- The steps and "none" as `TakesTheSteps` has them, the answer as the reply tells it.
 pub record TakesTheStepsTold (s : Session) (t : Tables) (way : List ℕ) (r : Reply) (t′ : Tables) (way′ : List ℕ) : Type 0 where
   pub steps : s .hunter ≢ s .target → Runs (huntOf (graph s t) (takenOver (graph s t) (session s) (core t) .session)) (takenOver (graph s t) (session s) (core t) .tables) (stepsOf s t) (core t′)
   pub answer : RightlyTold s t way r way′
