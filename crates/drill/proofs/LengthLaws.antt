@@ -4,7 +4,7 @@ use mathlib.Core.List.{List, [], _∷_, _++_}
 use Prim.Native.Nat.{ℕ, zero, suc, _+_, _*_, _≤_, _<_, _^_}
 use native.Mathlib.Omega.{arith}
 use native.Mathlib.Nat.{suc-mul, mul-le-mul}
-use lib.ListN.{length, getD, length-append}
+use lib.ListN.{length, getD, length-drop, length-append}
 use Rattle.method.specs.Tables as method
 use Rattle.method.specs.Graph.{Graph, Hunt}
 use Rattle.method.specs.Loop.{run}
@@ -23,6 +23,7 @@ use Rattle.lines.proofs.TextLaws.{decimal-few}
 use Rattle.drill.specs.Numbers.{moveNumber}
 use Rattle.drill.specs.Play.{Standing, Turn, turn, played}
 use Rattle.drill.specs.Output.{fileNumber, begun, output}
+use Rattle.drill.specs.Promises.{NextPiece}
 use Rattle.drill.proofs.NumberLaws.{formed, file-formed}
 
 -- A way has a cell more than it has links, at most one for each cell of the plan.
@@ -100,3 +101,7 @@ output-few file = choose-is (λ (l : List ℕ). length l < 2 ^ 64) _ (λ z. of-p
         let few : length (actionsOf file) ≤ 13104 = omega (arith, actions-count file (trailerOf file .offset) (trailerOf file .actions), F .whole, F .short) in
         let short : 74 + 21 * cells (begun file .plan) ≤ 86090 = omega (arith, area (F .size)) in
         omega (arith, played-few (actionsOf file) (begun file) (cells (begun file .plan)) refl, mul-le-mul few short)
+
+-- So the bytes can be counted to the end of each piece.
+pub piece-counted : {file : List ℕ} {printed : ℕ} {piece : List ℕ} → NextPiece file printed piece → printed + length piece < 2 ^ 64
+piece-counted {file} {printed} {piece} N = omega (arith, N .within, ap length (N .is), length-drop printed (output file), length-append piece (N .rest), output-few file)

@@ -4,7 +4,7 @@ use mathlib.Core.List.{List, _++_, append-nil}
 use Prim.Native.Nat.{ℕ, _+_, _*_, _≤_, _<_}
 use native.Mathlib.Omega.{arith}
 use native.Mathlib.Decide.{ℕ-discrete}
-use lib.ListN.{length, take, drop, length-drop, length-append}
+use lib.ListN.{length, take, drop, length-take, length-drop, length-append}
 use lib.Seq.{drop-drop, drop-at}
 use Rattle.method.proofs.Choices.{choose-yes}
 use Rattle.plan.proofs.MoveLaws.{area}
@@ -99,12 +99,23 @@ module _ {file : List ℕ} {t : Tables} {text : List ℕ} {r : Played} {t′ : T
           refused-prints file n ∙ sym (R .line .stands) ∙ sym (append-nil (take (r .used) text′))
           ∙ ap (λ k. take (r .used) text′ ++ played (stands (r .session) t′) (actionsFrom file (r .at) k)) (sym (R .none-left))
 
+  -- The text keeps its length, and what is used of it is in it.
+  pub begun-long : length text′ ≡ length text
+  begun-long = by-number (ℕ-discrete (fileNumber file) 0)
+    where
+      by-number : Dec (fileNumber file ≡ 0) → length text′ ≡ length text
+      by-number (yes z) = ap length (B .opened z .blank)
+      by-number (no n) = B .refused n .0 .line .long
+
   begun-front : length (take (r .used) text′) ≡ r .used
   begun-front = by-number (ℕ-discrete (fileNumber file) 0)
     where
       by-number : Dec (fileNumber file ≡ 0) → length (take (r .used) text′) ≡ r .used
       by-number (yes z) = ap (λ k. length (take k text′)) (B .opened z .unused) ∙ sym (B .opened z .unused)
       by-number (no n) = front (B .refused n .0 .line)
+
+  pub begun-used : r .used ≤ length text′
+  begun-used = omega (arith, begun-front, length-take (r .used) text′)
 
   pub first-piece : NextPiece file 0 (take (r .used) text′)
   first-piece = record { within = omega arith; rest = played (stands (r .session) t′) (actionsFrom file (r .at) (r .left)); is = begun-prints }

@@ -1,23 +1,20 @@
 -- A piece played is the next of the output, and once it is printed what is left over can be played and printed in turn.
-use mathlib.Core.Path.{_≡_, sym, ap, subst, _∙_}
-use mathlib.Core.Bool.{Bool, true, false, true≢false}
+use mathlib.Core.Path.{_≡_, sym, subst, _∙_}
+use mathlib.Core.Bool.{true, false, true≢false}
 use mathlib.Core.Logic.{_⊎_, inl, inr, ⊎-elim}
 use mathlib.Core.List.{List}
-use Prim.Native.Nat.{ℕ, _+_, _*_, _<_, _≤_, _^_}
-use native.Mathlib.Nat.{mul-le-mul-left, mul-add, mul-one}
+use Prim.Native.Nat.{ℕ, _+_, _<_, _≤_}
 use native.Mathlib.Omega.{arith}
 use lib.ListN.{length, take}
 use Rattle.tables.specs.declared.Session.{Session}
-use Rattle.tables.specs.Lent.{Tables, cells}
-use Rattle.drill_file.specs.File.{actionsFrom}
-use Rattle.lines.specs.Text.{room}
+use Rattle.tables.specs.Lent.{Tables}
 use Rattle.lines.proofs.PutLaws.{put-end}
 use Rattle.drill.specs.declared.Played.{Played}
 use Rattle.drill.specs.Output.{output}
-use Rattle.drill.specs.Promises.{stands, Plays, Unprinted, NextPiece}
+use Rattle.drill.specs.Promises.{Plays, NextPiece}
 use Rattle.drill.proofs.PieceLaws.{all-printed, next-piece, next-printed, same-cells, rest-playing, rest-fewer}
 use Rattle.printing.specs.declared.Written.{Written}
-use Rattle.printing.specs.Promises.{Piece, Printing}
+use Rattle.printing.specs.Promises.{Piece, Printing, WrittenTo}
 
 -- Before a turn: a write has failed and nothing is left to play, or what is left over can be played and printed.
 abbrev pub SoFar : (input : List ℕ) (got : ℕ) (file : List ℕ) → Written → Session → Tables → (way text : List ℕ) (at left : ℕ) → Type 0
@@ -29,12 +26,8 @@ module _ {input : List ℕ} {got : ℕ} {file : List ℕ} {w : Written} {s : Ses
   goes-on l = ⊎-elim (λ (f : (w .failed ≡ true) × (left ≡ 0)). absurd (omega (arith, l, f .1))) (λ (P : Printing input got file s t way at left text (w .bytes)). P) F
 
   -- None is left over: a write has failed, or all is printed.
-  pub all-done : left ≡ 0 → (w .failed ≡ true) ⊎ (w .bytes ≡ length (output file))
+  pub all-done : left ≡ 0 → WrittenTo w (length (output file))
   all-done e = ⊎-elim (λ (f : (w .failed ≡ true) × (left ≡ 0)). inl (f .0)) (λ (P : Printing input got file s t way at left text (w .bytes)). inr (all-printed at e (P .unprinted))) F
-
--- So many bytes for each action left over: one action fewer leaves room for one more text.
-one-more : (m n k : ℕ) → k < n → m + m * k ≤ m * n
-one-more m n k l = omega (arith, mul-le-mul-left m l, mul-add m k 1, mul-one m)
 
 module _ {input : List ℕ} {got : ℕ} {file : List ℕ} {s : Session} {t : Tables} {way : List ℕ} {at left : ℕ} {text : List ℕ} {printed : ℕ} {r : Played} {t′ : Tables} {way′ text′ : List ℕ}
     (P : Printing input got file s t way at left text printed) (Q : Plays file s t way at left text r t′ way′ text′) (l : 0 < left) where
@@ -52,12 +45,11 @@ module _ {input : List ℕ} {got : ℕ} {file : List ℕ} {s : Session} {t : Tab
   piece = record {
     read = P .read;
     put = put;
-    countable = omega (arith, P .countable, one-more (length text) left (r .left) fewer, put, same);
     next = subst (λ (f : List ℕ). NextPiece f printed (take (r .used) text′)) (P .part) (next-piece Q (P .unprinted));
   }
 
   -- It is printed, or a write failed: so far.
-  pub next-so-far : length way′ ≡ length way → {w : Written} {n : ℕ} → (w .failed ≡ true) ⊎ (w .bytes ≡ printed + r .used) → ((w .failed ≡ true) × (n ≡ 0)) ⊎ ((w .failed ≡ false) × (n ≡ r .left))
+  pub next-so-far : length way′ ≡ length way → {w : Written} {n : ℕ} → WrittenTo w (printed + r .used) → ((w .failed ≡ true) × (n ≡ 0)) ⊎ ((w .failed ≡ false) × (n ≡ r .left))
       → SoFar input got file w (r .session) t′ way′ text′ (r .at) n
   next-so-far e {w} {n} told left-is = ⊎-elim (λ (f : (w .failed ≡ true) × (n ≡ 0)). inl f) at-false left-is
     where
@@ -68,7 +60,6 @@ module _ {input : List ℕ} {got : ℕ} {file : List ℕ} {s : Session} {t : Tab
         playing = rest-playing Q e (P .playing);
         text-room = omega (arith, same-cells Q, P .text-room, same);
         unprinted = next-printed Q (P .unprinted) d;
-        countable = omega (arith, d, put, same, ap (λ (k : ℕ). k * r .left) same, one-more (length text) left (r .left) fewer, P .countable);
       }
 
       at-false : (w .failed ≡ false) × (n ≡ r .left) → SoFar input got file w (r .session) t′ way′ text′ (r .at) n

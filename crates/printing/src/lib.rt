@@ -7,10 +7,11 @@ ghost use mathlib.Core.Path.{_≡_};
 ghost use mathlib.Core.Bool.{true, false};
 ghost use mathlib.Core.Logic.{_⊎_};
 ghost use Prim.Native.Nat.{_+_};
-ghost use lib.ListN.{length};
+ghost use lib.ListN.{length, take};
 ghost use Rattle.tables.specs.Lent.{given};
 ghost use Rattle.drill.specs.Output.{output};
-ghost use Rattle.printing.specs.Promises.{Piece, Printing};
+ghost use Rattle.drill.specs.Promises.{NextPiece};
+ghost use Rattle.printing.specs.Promises.{Piece, Printing, WrittenTo};
 
 // How many bytes of the output are written, and whether a write failed.
 pub struct Written {
@@ -18,12 +19,19 @@ pub struct Written {
     pub failed: bool,
 }
 
-// Writes the next piece of the output: the one function that writes. What was read is `input`, of which the first `got` bytes are the file.
+// The one function that writes to standard output. What it is handed is the next piece of the output of the file, the first `got` bytes of the input. Is it written?
+fn write_piece(input: &[u8], got: usize, printed: usize, piece: &[u8]) -> bool
+    requires { ⌜ NextPiece (take got (now input)) printed (now piece) ⌝ }
+{
+    io::write_all(STDOUT_FILENO, piece)
+}
+
+// Prints the first `used` bytes of the text, all at once; a write that fails is told.
 pub fn print(input: &[u8], got: usize, printed: usize, text: &[u8], used: usize) -> Written
     requires { ⌜ Piece (now input) got printed (now text) used ⌝ }
-    ensures { λ r. ⌜ (r .failed ≡ true) ⊎ (r .bytes ≡ printed + used) ⌝ }
+    ensures { λ r. ⌜ WrittenTo r (printed + used) ⌝ }
 {
-    if !io::write_all(STDOUT_FILENO, &text[0..used]) {
+    if !write_piece(input, got, printed, &text[0..used]) {
         os::fail(b"write");
         return Written {
             bytes: printed,
@@ -67,7 +75,7 @@ pub fn play_all(
     text: &mut [u8],
 ) -> Written
     requires { ⌜ Printing (now input) got (now file) s (given plan g rhs parent k1 k2 place list) (now way) start actions (now text) printed ⌝ }
-    ensures { λ r. ⌜ (r .failed ≡ true) ⊎ (r .bytes ≡ length (output (now (file .entry)))) ⌝ }
+    ensures { λ r. ⌜ WrittenTo r (length (output (now (file .entry)))) ⌝ }
 {
     let mut r = drill_file::reading(file, start);
     let mut session = s;
