@@ -1,90 +1,93 @@
--- A drill played in pieces: after each the rest can be played.
-use mathlib.Core.Path.{_≡_, refl, sym, ap, subst, _∙_}
+-- A file begun and its first piece printed, and the parts of the tables that are lent.
+use mathlib.Core.Path.{_≡_, sym, ap, subst, _∙_}
+use mathlib.Core.Bool.{false, true≢false}
+use mathlib.Core.Logic.{inl, inr, ⊎-elim}
 use mathlib.Core.List.{List}
-use Prim.Native.Nat.{ℕ, zero, suc, _+_, _*_, _-_, _≤_, _<_}
+use Prim.Native.Nat.{ℕ, _+_, _*_, _-_, _≤_}
 use native.Mathlib.Omega.{arith}
+use denote.Ref.{now}
 use lib.ListN.{length, take, drop}
 use lib.Seq.{length-take-le}
-use Rattle.plan.specs.Cells.{Size}
 use Rattle.plan.proofs.MoveLaws.{area}
-use Rattle.tables.specs.declared.Session.{Session}
-use Rattle.tables.specs.Lent.{Tables, cells, Fits}
-use Rattle.tables.proofs.SoundLaws.{sound-fits}
-use Rattle.session.specs.declared.Answer.{Answer}
-use Rattle.session.specs.declared.Answer.the-variants.{Done, Refused}
-use Rattle.session.specs.declared.Reply.{Reply}
-use Rattle.session.specs.Refusals.{answered}
-use Rattle.drill_file.specs.declared.Trailer.{Trailer}
-use Rattle.drill_file.specs.File.{trailerOf, formNumber}
-use Rattle.lines.specs.Text.{room}
+use Rattle.tables.specs.Lent.{Lent, Tables, tables}
+use Rattle.drill_file.specs.File.{cellsIn}
+use Rattle.drill_file.proofs.FileLaws.{cells-few}
 use Rattle.drill.specs.declared.Played.{Played}
-use Rattle.drill.specs.Output.{fileNumber}
-use Rattle.drill.specs.Promises.{stands, Playing, Plays, Opening, Begins}
-use Rattle.drill.proofs.NumberLaws.{Formed, formed}
-use Rattle.runner.specs.Own.{mostCells}
+use Rattle.drill.specs.Output.{output}
+use Rattle.drill.specs.Promises.{Playing, Begins, NextPiece}
+use Rattle.drill.proofs.BeginLaws.{from-start}
+use Rattle.drill.proofs.PieceLaws.{all-printed, first-piece, first-printed, begun-long, begun-used, begun-playing}
+use Rattle.printing.specs.declared.Written.{Written}
+use Rattle.printing.specs.Promises.{Piece, Printing, WrittenTo}
+use Rattle.runner.specs.Own.{Own, Running, mostCells}
 
--- The actions left over can be played, on a plan of the same size, with a text of the same length.
-pub record Goes (file : List ℕ) (s now : Session) (t : Tables) (way text₀ text : List ℕ) (at left : ℕ) : Type 0 where
-  pub playing : Playing file now t way at left
-  pub wide : now .width ≡ s .width
-  pub high : now .height ≡ s .height
-  pub long : length text ≡ length text₀
+-- ---- the parts of the tables
 
-pub goes-start : {file : List ℕ} {s : Session} {t : Tables} {way text : List ℕ} {at left : ℕ} → Playing file s t way at left → Goes file s s t way text text at left
-goes-start P = record { playing = P; wide = refl; high = refl; long = refl }
+-- The first elements of a table.
+abbrev pub part : ℕ → List ℕ → List ℕ
+part n l = take (n - 0) (drop 0 l)
 
--- The size stays as it was.
-same-cells : (s now : Session) → now .width ≡ s .width → now .height ≡ s .height → cells now ≡ cells s
-same-cells s now w h = ap (λ y. y * now .width) h ∙ ap (λ y. s .height * y) w
+part-long : (l : List ℕ) (n : ℕ) → n ≤ length l → length (part n l) ≡ n
+part-long l n h = ap length (from-start n l) ∙ length-take-le n l h
 
--- A piece was played: the rest can be.
-pub goes-more : {file : List ℕ} {s now : Session} {t t′ : Tables} {way way′ text₀ text text′ : List ℕ} {at left : ℕ} {r : Played} → length way′ ≡ length way → Goes file s now t way text₀ text at left
-    → Plays file now t at left text r t′ text′ → Goes file s (r .session) t′ way′ text₀ text′ (r .at) (r .left)
-goes-more {now = now} {r = r} e G P = record {
-  playing = record {
-    sound = P .sound;
-    way-room = omega (arith, e, G .playing .way-room, same-cells now (r .session) (P .wide) (P .high));
-    in-file = omega (arith, P .place, G .playing .in-file);
+-- A file tells no more cells than the tables have room for.
+pub parts-room : (file : List ℕ) {n : ℕ} → n ≡ cellsIn file → n ≤ mostCells
+parts-room file e = omega (arith, cells-few file)
+
+-- What was read can be run on the parts that it asks for.
+pub running : {plan g rhs parent k1 k2 place list way text : Lent} {input : List ℕ} {got : ℕ} {file : List ℕ} {n : ℕ} → got ≤ length input → file ≡ take got input
+    → Own plan g rhs parent k1 k2 place list way text → n ≡ cellsIn file
+    → Running input got file
+    (tables (part (4 * n) (now plan)) (part n (now g)) (part n (now rhs)) (part n (now parent)) (part n (now k1)) (part n (now k2)) (part n (now place)) (part n (now list)))
+    (now way) (now text)
+running {plan} {g} {rhs} {parent} {k1} {k2} {place} {list} {file = file} {n} read is O e = record {
+  read = read;
+  part = is;
+  opening = record {
+    fits = record {
+      plan = part-long (now plan) (4 * n) (omega (arith, l, O .plan-room)) ∙ ap (λ k. 4 * k) e;
+      g = part-long (now g) n (omega (arith, l, O .g-room)) ∙ e;
+      rhs = part-long (now rhs) n (omega (arith, l, O .rhs-room)) ∙ e;
+      parent = part-long (now parent) n (omega (arith, l, O .parent-room)) ∙ e;
+      k1 = part-long (now k1) n (omega (arith, l, O .k1-room)) ∙ e;
+      k2 = part-long (now k2) n (omega (arith, l, O .k2-room)) ∙ e;
+      place = part-long (now place) n (omega (arith, l, O .place-room)) ∙ e;
+      list = part-long (now list) n (omega (arith, l, O .list-room)) ∙ e;
+    };
+    text-room = omega (arith, O .text-room);
   };
-  wide = P .wide ∙ G .wide;
-  high = P .high ∙ G .high;
-  long = P .long ∙ G .long;
+  way-room = omega (arith, O .way-room);
+  text-room = O .text-room;
 }
+  where
+    l : n ≤ mostCells
+    l = parts-room file e
 
--- The tables keep their lengths.
-pub goes-fits : {file : List ℕ} {s now : Session} {t : Tables} {way text₀ text : List ℕ} {at left : ℕ} → Goes file s now t way text₀ text at left → Fits (cells s) t
-goes-fits {s = s} {now = now} {t = t} G = subst (λ w. Fits (s .height * w) t) (G .wide) (subst (λ h. Fits (h * now .width) t) (G .high) (sound-fits (G .playing .sound)))
+-- ---- a file begun
 
-pub piece-fits : {file : List ℕ} {s now : Session} {t t′ : Tables} {way text₀ text text′ : List ℕ} {at left : ℕ} {r : Played} → Goes file s now t way text₀ text at left
-    → Plays file now t at left text r t′ text′ → Fits (cells s) t′
-piece-fits {way = way} G P = goes-fits {way = way} (goes-more refl G P)
+-- Where a write did not fail, its bytes are written.
+written : {w : Written} {n : ℕ} → w .failed ≡ false → WrittenTo w n → w .bytes ≡ n
+written f = ⊎-elim (λ t. absurd (true≢false (sym t ∙ f))) (λ e. e)
 
--- Each piece plays an action at least.
-pub goes-less : {file : List ℕ} {s now : Session} {t t′ : Tables} {way text₀ text text′ : List ℕ} {at left : ℕ} {r : Played} → room mostCells ≤ length text₀ → 0 < left → Goes file s now t way text₀ text at left
-    → Plays file now t at left text r t′ text′ → r .left < left
-goes-less l p G P = P .goes-on (omega (arith, l, G .long, area (G .playing .sound .plan .size))) p
+module _ {input : List ℕ} {got : ℕ} {file : List ℕ} {t : Tables} {way text : List ℕ} {r : Played} {t′ : Tables} {text′ : List ℕ}
+    (R : Running input got file t way text) (B : Begins file t text r t′ text′) where
+  -- What begin leaves in the text is the first piece of the output of what was read.
+  pub first-read : Piece input got 0 text′ (r .used)
+  first-read = record { read = R .read; put = begun-used B; next = subst (λ f. NextPiece f 0 (take (r .used) text′)) (R .part) (first-piece B) }
 
--- ---- an opened file
+  -- Once it is written: where nothing is left to play, all of the output is ..
+  pub whole-written : {w : Written} → r .left ≡ 0 → WrittenTo w (0 + r .used) → WrittenTo w (length (output file))
+  whole-written l = ⊎-elim inl (λ e. inr (all-printed (r .at) l (first-printed B e)))
 
-done-zero : (n : ℕ) → Done ≡ answered n → n ≡ 0
-done-zero zero e = refl
-done-zero (suc n) e = let z : _≡_ {A = ℕ} 0 1 = cc in absurd (omega arith)
-
--- The actions of a file that was opened can be played.
-pub begun-playing : {file : List ℕ} {t t′ : Tables} {way : List ℕ} {r : Reply} {start actions : ℕ} → Opening file t → start ≡ trailerOf file .offset → actions ≡ trailerOf file .actions → mostCells ≤ length way → Begins file r t′ → r .answer ≡ Done
-    → Playing file (r .session) t′ way start actions
-begun-playing {file} O e f l B d =
-    let F = formed file (O .formed) in
-    let S = B .sound (done-zero (fileNumber file) (sym d ∙ B .answer)) in
-    record { sound = S; way-room = omega (arith, l, area (S .plan .size)); in-file = omega (arith, F .whole, e, f) }
-
--- A file of right form has a right size.
-pub size-of : (file : List ℕ) {x : Trailer} {n : ℕ} → x ≡ trailerOf file → n ≡ formNumber file → n ≡ 0 → Size (x .width) (x .height)
-size-of file e f z = subst (λ y. Size (y .width) (y .height)) (sym e) (formed file (sym f ∙ z) .size)
-
-pub trailer-there : (file : List ℕ) {n : ℕ} → n ≡ formNumber file → n ≡ 0 → 12 ≤ length file
-trailer-there file f z = formed file (sym f ∙ z) .long
-
--- The part of a table that is lent has the length asked for.
-pub part-long : (l : List ℕ) (n : ℕ) → n ≤ length l → length (take (n - 0) (drop 0 l)) ≡ n
-part-long l n h = let e : n - 0 ≡ n = omega arith in ap (λ k. length (take k l)) e ∙ length-take-le n l h
+  -- .. else what is left to play can be played and printed.
+  pub rest-printing : {w : Written} → (r .left ≡ 0 → ⊥) → w .failed ≡ false → WrittenTo w (0 + r .used) → Printing input got file (r .session) t′ way (r .at) (r .left) text′ (w .bytes)
+  rest-printing n f W = record {
+    read = R .read;
+    part = R .part;
+    playing = can-play;
+    text-room = omega (arith, R .text-room, begun-long B, area (can-play .sound .plan .size));
+    unprinted = first-printed B (written f W);
+  }
+    where
+      can-play : Playing file (r .session) t′ way (r .at) (r .left)
+      can-play = begun-playing B (omega (arith, n)) (R .way-room)

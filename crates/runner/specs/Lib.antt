@@ -1,2 +1,2 @@
--- The runner's own tables.
+-- The runner's own tables, and what it asks to run a file.
 pub mod Own

@@ -1,10 +1,12 @@
 -- "The runner holds one plan of 4,096 cells in arrays of its own", and a text for the lines.
 use mathlib.Core.Path.{_≡_}
-use Prim.Native.Nat.{ℕ, _+_, _*_, _≤_}
+use mathlib.Core.List.{List}
+use Prim.Native.Nat.{ℕ, _*_, _≤_}
 use denote.Ref.{now}
-use lib.ListN.{length}
-use Rattle.tables.specs.Lent.{Lent}
+use lib.ListN.{length, take}
+use Rattle.tables.specs.Lent.{Lent, Tables}
 use Rattle.lines.specs.Text.{room}
+use Rattle.drill.specs.Promises.{Opening}
 
 abbrev pub mostCells : ℕ
 mostCells = 4096
@@ -21,3 +23,11 @@ pub record Own (plan g rhs parent k1 k2 place list way text : Lent) : Type 0 whe
   pub list-room : length (now list) ≡ mostCells
   pub way-room : length (now way) ≡ mostCells
   pub text-room : room mostCells ≤ length (now text)
+
+-- A file can be run: it is the first `got` bytes of what was read, the tables have its size, and there is room for every way and every line.
+pub record Running (input : List ℕ) (got : ℕ) (file : List ℕ) (t : Tables) (way text : List ℕ) : Type 0 where
+  pub read : got ≤ length input
+  pub part : file ≡ take got input
+  pub opening : Opening file t text
+  pub way-room : mostCells ≤ length way
+  pub text-room : room mostCells ≤ length text

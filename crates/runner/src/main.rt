@@ -1,93 +1,28 @@
-// The drill runner: reads one drill file and prints a line for each search. What it prints is made by proved functions; only reading and writing are outside.
+// The drill runner: reads one drill file and prints a line for each search. What it hands to each write is the next piece of the output of what it read; only that the bytes cross is outside.
 use drill;
 use drill_file;
 use libc::STDIN_FILENO;
-use libc::STDOUT_FILENO;
-use lines;
-use session;
-use tables::Session;
-ghost use Prim.Native.Nat.{_≤_};
-ghost use mathlib.Core.Path.{_≡_};
-ghost use lib.ListN.{length};
+use printing;
+ghost use Prim.Native.Nat.{_+_, _≤_};
+ghost use lib.ListN.{length, take};
 ghost use Rattle.tables.specs.Lent.{given};
-ghost use Rattle.drill_file.specs.File.{trailerOf, formNumber};
-ghost use Rattle.lines.specs.Text.{room};
-ghost use Rattle.drill.specs.Promises.{Opening, Playing};
-ghost use Rattle.runner.specs.Own.{Own, mostCells};
+ghost use Rattle.drill.specs.Output.{output};
+ghost use Rattle.printing.specs.Promises.{Piece, WrittenTo};
+ghost use Rattle.runner.specs.Own.{Own, Running};
 
-// Writes the first bytes of the text, all at once. Is it written?
-fn print(text: &[u8], used: usize) -> bool
-    requires { ⌜ used ≤ length (now text) ⌝ }
+// Prints the first piece of the output: no byte is printed before it.
+fn print_first(input: &[u8], got: usize, text: &[u8], used: usize) -> printing::Written
+    requires { ⌜ Piece (now input) got 0 (now text) used ⌝ }
+    ensures { λ r. ⌜ WrittenTo r (0 + used) ⌝ }
 {
-    let is_written = io::write_all(STDOUT_FILENO, &text[0..used]);
-    if !is_written {
-        os::fail(b"write");
-    }
-    is_written
+    printing::print(input, got, 0, text, used)
 }
 
-// Prints a refusal.
-fn refuse(number: u8, text: &mut [u8])
-    requires { ⌜ room 0 ≤ length (now text) ⌝ }
-{
-    let used = lines::put_refusal(number, text, 0);
-    print(text, used);
-}
-
-// Plays the actions of an opened file, and prints the text each time that it is full.
-fn play_all(
-    file: &[u8],
-    start: usize,
-    actions: usize,
-    s: Session,
-    plan: &mut [u8],
-    g: &mut [u32],
-    rhs: &mut [u32],
-    parent: &mut [u8],
-    k1: &mut [u32],
-    k2: &mut [u32],
-    place: &mut [u16],
-    list: &mut [u16],
-    way: &mut [u16],
-    text: &mut [u8],
-)
-    requires { ⌜ Playing (now file) s (given plan g rhs parent k1 k2 place list) (now way) start actions ⌝ }
-    requires { ⌜ room mostCells ≤ length (now text) ⌝ }
-{
-    let mut session = s;
-    let mut at = start;
-    let mut left = actions;
-    while 0 < left {
-        let played = drill::play(
-            file,
-            at,
-            left,
-            session,
-            plan,
-            g,
-            rhs,
-            parent,
-            k1,
-            k2,
-            place,
-            list,
-            way,
-            text,
-        );
-        if !print(text, played.used) {
-            return;
-        }
-        session = played.session;
-        at = played.at;
-        left = played.left;
-    }
-}
-
-// Opens a file of right form and plays it.
+// Runs a file on tables of its size: prints what begin leaves in the text, then plays and prints what is left over.
 fn run(
+    input: &[u8],
+    got: usize,
     file: &[u8],
-    start: usize,
-    actions: usize,
     plan: &mut [u8],
     g: &mut [u32],
     rhs: &mut [u32],
@@ -98,23 +33,26 @@ fn run(
     list: &mut [u16],
     way: &mut [u16],
     text: &mut [u8],
-)
-    requires { ⌜ Opening (now file) (given plan g rhs parent k1 k2 place list) ⌝ }
-    requires { ⌜ (start ≡ trailerOf (now file) .offset) × (actions ≡ trailerOf (now file) .actions) ⌝ }
-    requires { ⌜ (mostCells ≤ length (now way)) × (room mostCells ≤ length (now text)) ⌝ }
+) -> printing::Written
+    requires { ⌜ Running (now input) got (now file) (given plan g rhs parent k1 k2 place list) (now way) (now text) ⌝ }
+    ensures { λ r. ⌜ WrittenTo r (length (output (now (file .entry)))) ⌝ }
 {
-    let reply = drill::begin(file, plan, g, rhs, parent, k1, k2, place, list);
-    let opened = reply.session;
-    let answer = reply.answer;
-    if let session::Answer::Refused(number) = answer {
-        refuse(number, text);
-        return;
+    let begun = drill::begin(file, plan, g, rhs, parent, k1, k2, place, list, text);
+    let first = print_first(input, got, text, begun.used);
+    if first.failed {
+        return first;
     }
-    play_all(
+    if begun.left == 0 {
+        return first;
+    }
+    printing::play_all(
+        input,
+        got,
         file,
-        start,
-        actions,
-        opened,
+        begun.at,
+        begun.left,
+        begun.session,
+        first.bytes,
         plan,
         g,
         rhs,
@@ -125,12 +63,13 @@ fn run(
         list,
         way,
         text,
-    );
+    )
 }
 
-// Runs a file on the parts of the tables that its size asks for.
+// Runs the file that was read, on the parts of the tables that its size asks for.
 fn run_file(
-    file: &[u8],
+    input: &[u8],
+    got: usize,
     plan: &mut [u8],
     g: &mut [u32],
     rhs: &mut [u32],
@@ -141,21 +80,18 @@ fn run_file(
     list: &mut [u16],
     way: &mut [u16],
     text: &mut [u8],
-)
+) -> printing::Written
+    requires { ⌜ got ≤ length (now input) ⌝ }
     requires { ⌜ Own plan g rhs parent k1 k2 place list way text ⌝ }
+    ensures { λ r. ⌜ WrittenTo r (length (output (take got (now (input .entry))))) ⌝ }
 {
-    let number = drill_file::form(file);
-    if number != 0 {
-        refuse(number, text);
-        return;
-    }
-    let trailer = drill_file::trailer_of(file);
-    let n = trailer.height * trailer.width;
+    let file = &input[0..got];
+    let n = drill_file::cells_in(file);
     let m = 4 * n;
     run(
+        input,
+        got,
         file,
-        trailer.offset,
-        trailer.actions,
         &mut plan[0..m],
         &mut g[0..n],
         &mut rhs[0..n],
@@ -166,7 +102,7 @@ fn run_file(
         &mut list[0..n],
         way,
         text,
-    );
+    )
 }
 
 // Was the input read to its end? A read that fails looks like the end to read_full, so one more read has to find the end too.
@@ -180,8 +116,8 @@ fn is_read(fd: i32, got: usize) -> bool {
 
 // Reads a drill file, of which 65,537 bytes tell that it is too long, and runs it.
 fn run_input(fd: i32, name: &[u8]) {
-    let mut file = [0u8; 65537];
-    let got = io::read_full(fd, &mut file);
+    let mut input = [0u8; 65537];
+    let got = io::read_full(fd, &mut input);
     if !is_read(fd, got) {
         os::fail(name);
         return;
@@ -197,7 +133,8 @@ fn run_input(fd: i32, name: &[u8]) {
     let mut way = [65535u16; 4096];
     let mut text = [0u8; 65536];
     run_file(
-        &file[..got],
+        &input,
+        got,
         &mut plan,
         &mut g,
         &mut rhs,

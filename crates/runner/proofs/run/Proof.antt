@@ -1,22 +1,19 @@
+-- `runner::run` hands over the first piece, then what is left to play: all of the output, or a write fails.
+use mathlib.Core.Logic.{inl}
 use native.Mathlib.Omega.{arith}
-use Rattle.runner.proofs.RunLaws.{begun-playing}
+use Rattle.runner.proofs.RunLaws.{first-read, whole-written, rest-printing}
 use borrow.Author.Needs.{needs}
 use Rattle.runner.proofs.run.Statement.{statement}
 use Rattle.runner.proofs.run.Tie as tie
-use Rattle.runner.proofs.run.Reads as reads
-use Rattle.runner.proofs.run.Lts as lts
-use Rattle.drill.proofs.begin.Reads as begin-reads
-use Rattle.runner.proofs.play_all.Reads as play-all-reads
-use Rattle.runner.proofs.refuse.Reads as refuse-reads
 
 begin-requires : tie.Need-begin-requires
 begin-requires c κs = search needs
 
-enum-known-answer : tie.Need-enum-known-answer
-enum-known-answer c = search needs
-
-refuse-requires : tie.Need-refuse-requires
-refuse-requires c κs = omega (arith, c .before .before .before .before .before .before .before .before .before .before .before .before .before .before .before .before .before .before .before .before .before .before .before .before .before .before .before .before .before .before .before .before .before .before .before .before .before .before .before .before .before .pre .1 .1 .1)
+print-first-requires : tie.Need-print-first-requires
+print-first-requires c κs =
+    let begun = c .before .before .before .before .before .before .before .before .before .before .before .before .before .before .before .before .before .before .before in
+    let start = begun .before .before .before .before .before .before .before .before .before .before .before .before .before .before .before .before .before .before .before .before .before .before in
+    first-read (start .pre) (begun .begin .ensures)
 
 same-length : tie.Need-same-length
 same-length c = search needs
@@ -46,54 +43,112 @@ same-length-9 : tie.Need-same-length-9
 same-length-9 c = search needs
 
 returns : tie.Need-returns
-returns c = search needs
-
-enum-told : tie.Need-enum-told
-enum-told c = search needs
-
-play-all-requires : tie.Need-play-all-requires
-play-all-requires c κs = (begun-playing (c .before .before .before .before .before .before .before .before .before .before .before .before .before .before .before .before .before .before .before .before .before .before .before .before .before .before .before .before .before .before .before .before .before .before .before .before .before .before .before .before .before .before .before .before .before .before .before .before .before .pre .0) (c .before .before .before .before .before .before .before .before .before .before .before .before .before .before .before .before .before .before .before .before .before .before .before .before .before .before .before .before .before .before .before .before .before .before .before .before .before .before .before .before .before .before .before .before .before .before .before .before .before .pre .1 .0 .0) (c .before .before .before .before .before .before .before .before .before .before .before .before .before .before .before .before .before .before .before .before .before .before .before .before .before .before .before .before .before .before .before .before .before .before .before .before .before .before .before .before .before .before .before .before .before .before .before .before .before .pre .1 .0 .1) (c .before .before .before .before .before .before .before .before .before .before .before .before .before .before .before .before .before .before .before .before .before .before .before .before .before .before .before .before .before .before .before .before .before .before .before .before .before .before .before .before .before .before .before .before .before .before .before .before .before .pre .1 .1 .0) (c .before .before .before .before .before .before .before .before .before .before .before .before .before .before .before .before .before .before .before .before .before .before .before .before .before .before .before .before .before .begin .ensures) (c .before .before .before .before .before .before .before .before .before .before .enum-told .given .1), c .before .before .before .before .before .before .before .before .before .before .before .before .before .before .before .before .before .before .before .before .before .before .before .before .before .before .before .before .before .before .before .before .before .before .before .before .before .before .before .before .before .before .before .before .before .before .before .before .before .pre .1 .1 .1)
+returns c = inl (c .if1 .taken)
 
 same-length-10 : tie.Need-same-length-10
-same-length-10 c = omega (arith, c .before .before .before .before .before .before .before .before .before .before .before .before .before .before .before .before .before .before .before .plan2, c .before .before .before .before .before .before .before .before .before .before .before .before .before .before .before .before .before .before .before .before .before .before .before .before .before .before .before .before .before .before .before .before .before .before .before .before .before .before .before .before .before .before .before .before .before .before .before .before .before .plan)
+same-length-10 c = search needs
 
 same-length-11 : tie.Need-same-length-11
-same-length-11 c = omega (arith, c .before .before .before .before .before .before .before .before .before .before .before .before .before .before .before .before .before .g2, c .before .before .before .before .before .before .before .before .before .before .before .before .before .before .before .before .before .before .before .before .before .before .before .before .before .before .before .before .before .before .before .before .before .before .before .before .before .before .before .before .before .before .before .before .before .before .before .g)
+same-length-11 c = search needs
 
 same-length-12 : tie.Need-same-length-12
-same-length-12 c = omega (arith, c .before .before .before .before .before .before .before .before .before .before .before .before .before .before .before .rhs2, c .before .before .before .before .before .before .before .before .before .before .before .before .before .before .before .before .before .before .before .before .before .before .before .before .before .before .before .before .before .before .before .before .before .before .before .before .before .before .before .before .before .before .before .before .before .rhs)
+same-length-12 c = search needs
 
 same-length-13 : tie.Need-same-length-13
-same-length-13 c = omega (arith, c .before .before .before .before .before .before .before .before .before .before .before .before .before .parent2, c .before .before .before .before .before .before .before .before .before .before .before .before .before .before .before .before .before .before .before .before .before .before .before .before .before .before .before .before .before .before .before .before .before .before .before .before .before .before .before .before .before .before .before .parent)
+same-length-13 c = search needs
 
 same-length-14 : tie.Need-same-length-14
-same-length-14 c = omega (arith, c .before .before .before .before .before .before .before .before .before .before .before .k12, c .before .before .before .before .before .before .before .before .before .before .before .before .before .before .before .before .before .before .before .before .before .before .before .before .before .before .before .before .before .before .before .before .before .before .before .before .before .before .before .before .before .k1)
+same-length-14 c = search needs
 
 same-length-15 : tie.Need-same-length-15
-same-length-15 c = omega (arith, c .before .before .before .before .before .before .before .before .before .k22, c .before .before .before .before .before .before .before .before .before .before .before .before .before .before .before .before .before .before .before .before .before .before .before .before .before .before .before .before .before .before .before .before .before .before .before .before .before .before .before .k2)
+same-length-15 c = search needs
 
 same-length-16 : tie.Need-same-length-16
-same-length-16 c = omega (arith, c .before .before .before .before .before .before .before .place2, c .before .before .before .before .before .before .before .before .before .before .before .before .before .before .before .before .before .before .before .before .before .before .before .before .before .before .before .before .before .before .before .before .before .before .before .before .before .place)
+same-length-16 c = search needs
 
 same-length-17 : tie.Need-same-length-17
-same-length-17 c = omega (arith, c .before .before .before .before .before .list2, c .before .before .before .before .before .before .before .before .before .before .before .before .before .before .before .before .before .before .before .before .before .before .before .before .before .before .before .before .before .before .before .before .before .before .before .list)
+same-length-17 c = search needs
 
 same-length-18 : tie.Need-same-length-18
 same-length-18 c = search needs
 
-same-length-19 : tie.Need-same-length-19
-same-length-19 c = search needs
-
 returns-2 : tie.Need-returns-2
-returns-2 c = search needs
+returns-2 c =
+    let begun = c .before .before .before .before .before .before .before .before .before .before .before .before .before .before .before .before .before .before .before .before .before .before .before in
+    let start = begun .before .before .before .before .before .before .before .before .before .before .before .before .before .before .before .before .before .before .before .before .before .before in
+    whole-written (start .pre) (begun .begin .ensures) (c .if2 .taken) (c .before .before .before .print-first .ensures)
+
+play-all-requires : tie.Need-play-all-requires
+play-all-requires c κs =
+    let tested = c .before .before .before .before .before .before .before .before .before .before in
+    let printed = tested .before .before .before in
+    let begun = printed .before .before .before .before .before .before .before .before .before .before .before .before .before .before .before .before .before .before .before .before in
+    let start = begun .before .before .before .before .before .before .before .before .before .before .before .before .before .before .before .before .before .before .before .before .before .before in
+    rest-printing (start .pre) (begun .begin .ensures) (tested .if2 .left) (tested .before .before .if1 .left) (printed .print-first .ensures)
+
+same-length-19 : tie.Need-same-length-19
+same-length-19 c =
+    let after = c .before .before .before .before .before .before .before .before .before .before .before .before .before .before .before .before .before .before .before in
+    let printed = after .before .before .before .before .before .before .before .before .before .before .before .before .before .before .before in
+    omega (arith, after .plan2, printed .before .before .before .before .before .before .before .before .before .before .before .before .before .before .before .before .before .before .before .plan)
+
+same-length-20 : tie.Need-same-length-20
+same-length-20 c =
+    let after = c .before .before .before .before .before .before .before .before .before .before .before .before .before .before .before .before .before in
+    let printed = after .before .before .before .before .before .before .before .before .before .before .before .before .before .before .before .before .before in
+    omega (arith, after .g2, printed .before .before .before .before .before .before .before .before .before .before .before .before .before .before .before .before .before .g)
+
+same-length-21 : tie.Need-same-length-21
+same-length-21 c =
+    let after = c .before .before .before .before .before .before .before .before .before .before .before .before .before .before .before in
+    let printed = after .before .before .before .before .before .before .before .before .before .before .before .before .before .before .before .before .before .before .before in
+    omega (arith, after .rhs2, printed .before .before .before .before .before .before .before .before .before .before .before .before .before .before .before .rhs)
+
+same-length-22 : tie.Need-same-length-22
+same-length-22 c =
+    let after = c .before .before .before .before .before .before .before .before .before .before .before .before .before in
+    let printed = after .before .before .before .before .before .before .before .before .before .before .before .before .before .before .before .before .before .before .before .before .before in
+    omega (arith, after .parent2, printed .before .before .before .before .before .before .before .before .before .before .before .before .before .parent)
+
+same-length-23 : tie.Need-same-length-23
+same-length-23 c =
+    let after = c .before .before .before .before .before .before .before .before .before .before .before in
+    let printed = after .before .before .before .before .before .before .before .before .before .before .before .before .before .before .before .before .before .before .before .before .before .before .before in
+    omega (arith, after .k12, printed .before .before .before .before .before .before .before .before .before .before .before .k1)
+
+same-length-24 : tie.Need-same-length-24
+same-length-24 c =
+    let after = c .before .before .before .before .before .before .before .before .before in
+    let printed = after .before .before .before .before .before .before .before .before .before .before .before .before .before .before .before .before .before .before .before .before .before .before .before .before .before in
+    omega (arith, after .k22, printed .before .before .before .before .before .before .before .before .before .k2)
+
+same-length-25 : tie.Need-same-length-25
+same-length-25 c =
+    let after = c .before .before .before .before .before .before .before in
+    let printed = after .before .before .before .before .before .before .before .before .before .before .before .before .before .before .before .before .before .before .before .before .before .before .before .before .before .before .before in
+    omega (arith, after .place2, printed .before .before .before .before .before .before .before .place)
+
+same-length-26 : tie.Need-same-length-26
+same-length-26 c =
+    let after = c .before .before .before .before .before in
+    let printed = after .before .before .before .before .before .before .before .before .before .before .before .before .before .before .before .before .before .before .before .before .before .before .before .before .before .before .before .before .before in
+    omega (arith, after .list2, printed .before .before .before .before .before .list)
+
+same-length-27 : tie.Need-same-length-27
+same-length-27 c = search needs
+
+same-length-28 : tie.Need-same-length-28
+same-length-28 c = omega (arith, c .before .text2, c .before .before .before .before .before .before .before .before .before .before .before .before .before .before .before .before .before .before .before .before .before .before .before .before .before .before .before .before .before .before .before .before .before .before .before .before .before .text)
+
+returns-3 : tie.Need-returns-3
+returns-3 c = search needs
 
 pub run-spec : {M : Type 1} → statement M
 run-spec =
     tie.close
     (tie.spec
     begin-requires
-    enum-known-answer
-    refuse-requires
+    print-first-requires
     same-length
     same-length-2
     same-length-3
@@ -104,8 +159,6 @@ run-spec =
     same-length-8
     same-length-9
     returns
-    enum-told
-    play-all-requires
     same-length-10
     same-length-11
     same-length-12
@@ -115,5 +168,16 @@ run-spec =
     same-length-16
     same-length-17
     same-length-18
+    returns-2
+    play-all-requires
     same-length-19
-    returns-2)
+    same-length-20
+    same-length-21
+    same-length-22
+    same-length-23
+    same-length-24
+    same-length-25
+    same-length-26
+    same-length-27
+    same-length-28
+    returns-3)
