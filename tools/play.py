@@ -1,6 +1,6 @@
 """Writes crates/play/proofs/play/Proof.antt, the walk of `play::play`, from play.tmpl. Run it again by `tools/walks` after a change."""
-from ten_tables import NAMES, ROWS, TEN, WIDTHS, life, name
-from walk import Walk, chain, filled, items, nest, proj, sub
+from ten_tables import NAMES, ROWS, TEN, WIDTHS, life
+from walk import Walk, cell, chain, filled, nest, owned_session, owned_word, place, proj
 
 # ---- the locals, as `rt mir play` shows them: 0 the result; 1 the reader, 2 the actions, 3 the session and 4 to 13 the tables passed;
 # then the reader that moves, what an action left, the actions left over, the test, the text's length, the action, the reader read, each table lent again (pointer and slice), the reader moved on, its place
@@ -11,8 +11,6 @@ AGAIN = [22 + 2 * i for i in TEN]
 MOVED, PLACE = 41, 42
 N = 43
 
-cell = lambda i: f'c{i}'
-place = lambda i: 'l' + sub(i)
 TYPES = {0: 'PL′.mir', 1: '(RD′.mir (named 0))', 2: 'word', 3: 'SS′.mir', READER: 'reader', TURNED: 'TR′.mir', LEFT: 'word', TEST: 'tyBool', LENGTH: 'word', ACTION: 'AC′.mir', READ: 'reader', MOVED: 'reader', PLACE: 'word'}
 for i in TEN:
     TYPES[TABLE[i]] = f'(lent (named {i + 1}) {WIDTHS[i]})'
@@ -44,24 +42,15 @@ def context(full, first=None):
     return ' ∷ '.join(r) + ' ∷ []'
 
 
-def owned_word(x, fits):
-    return f'owned ! usize (Is usize) (uint-makes 𝓤 H A W w64) {x} _ (refl, {fits})'
-
-
-def owned_session(x, fits):
-    return f'owned ! SS.the-row (Is SS.the-row) (LL.makes SS.the-type SS′.the-plain 𝓤 H A) {x} _ {fits}'
-
-
 # ---- what is passed, and to `play_action`
 ALIVE = chain([f'‵ (flft ({proj("κs", i)}) ({proj("qs", i)}))' for i in range(11)] + ['‵ ftrue'])
 ENTRY = '(B κs ∷ usize ∷ SS.the-row ∷ ' + ' ∷ '.join(f'MutSlice (named {i + 1}) ({proj("κs", i + 1)}) {ROWS[i]}' for i in TEN) + ' ∷ [])'
 ARGUMENTS = '(mach s start ∷ vint w64 actions ∷ SS′.lowered st ∷ ' + ' ∷ '.join(slice_of(i) for i in TEN) + ' ∷ [])'
-AT = nest(['mach s start ∷ []', 'vint w64 actions ∷ []', 'SS′.lowered st ∷ []'] + [f'{slice_of(i)} ∷ []' for i in TEN])
+AT = nest(['mach s start ∷ []', 'vint w64 actions ∷ []', 'SS′.lowered st ∷ []'], 'slices ten tt')
 KS = nest([f'(N .{life(i)} ∷ [])' for i in TEN])
 QS = nest(['fullShare'] * 10)
-again = lambda i: f'record {{ ptr = ten .{NAMES[i]} .ptr; name = N .{name(i)}; now = x .lists .{NAMES[i]} }}'
-TO = nest([ACT, 'x .turned .session'] + [again(i) for i in TEN] + ['x .turned .used'])
-TO_VALUES = nest(['u ∷ []', 'SS′.lowered (x .turned .session) ∷ []'] + [f'{slice_of(i)} ∷ []' for i in TEN] + ['vint w64 (x .turned .used) ∷ []'])
+TO = nest([ACT, 'x .turned .session'], 'lents ten N (x .lists) (x .turned .used, tt)')
+TO_VALUES = nest(['u ∷ []', 'SS′.lowered (x .turned .session) ∷ []'], 'slices ten (vint w64 (x .turned .used) ∷ [], tt)')
 ASKED = f'(fsep (AC.the-row .own ({ACT}) (u ∷ [])) (fsep (SS.the-row .own (x .turned .session) (SS′.lowered (x .turned .session) ∷ [])) (Outs {HELD} N (x .lists) (Used x))))'
 LISTS_OF = 'record { ' + ' '.join(f'{NAMES[i]} = {proj("ws", 2 + i)};' for i in TEN) + ' }'
 OF_WS = 'left-lists x u N ws'
@@ -101,13 +90,13 @@ def regains_all():
     w = Walk(8)
     w.raw('qed W (raw (PlayAction 𝓤 H A mem run .post (to-action x u N) r) ∷ ‵ (Kept-of x N) ∷ []) ∵ updating ! $')
     w.ctx = ['post', 'backs']
-    w.step(f'use1 W (later (some (λ (t : Turned). (Alive {HELD} 𝓤 N ⊛ ‵ (TR.the-row .own t (r ∷ []))) ⊛ raw (ensured 𝓤 H A play-action.ended (play-action.clauses 𝓤 H A mem run) {KS} {TO} tt t)))) (id⊢ 𝓤 _)')
+    w.step(f'use1 W (later (some (λ (t : Turned). (Alive {HELD} 𝓤 N ⊛ ‵ (TR.the-row .own t (r ∷ []))) ⊛ raw (ensured 𝓤 H A play-action.ended (play-action.clauses 𝓤 H A mem run) (lives x u N) (passes x u N) tt t)))) (id⊢ 𝓤 _)')
     w.step('await ! tt')
     w.opens('pick ! (λ t.')
     w.split('post', 'given', 'ensured')
     w.move('ensured')
     said = turns(f'({ACT})', '(x .turned .session)', '(x .turned .used)', '(x .lists)', 't', f'({OF_WS})')
-    w.step(f'use1 W (some (λ (ws : Lasts play-action.ended {KS} {TO}). ‵ (lasts play-action.ended {KS} {TO} ws) ⊛ raw (fact 𝓤 ({said})))) (id⊢ 𝓤 _)')
+    w.step(f'use1 W (some (λ (ws : Lasts play-action.ended (lives x u N) (passes x u N)). ‵ (lasts play-action.ended (lives x u N) (passes x u N) ws) ⊛ raw (fact 𝓤 ({said})))) (id⊢ 𝓤 _)')
     w.opens('pick ! (λ ws.')
     w.split('ensured', 'lasts', 'fact')
     w.move('fact')
@@ -132,7 +121,7 @@ def regains_all():
 
 def holds_all():
     w = Walk(8)
-    w.raw(f'qed W ({ALIVE} ∷ ‵ (owns {ENTRY} a at) ∷ []) ∵')
+    w.raw('qed W (Tokens ∷ ‵ Owned ∷ []) ∵')
     w.ctx = ['alive', 'owns']
     w.split('alive', 'tok', 'toks')
     w.step('nothing !')
@@ -156,8 +145,8 @@ def exits():
     w = Walk(8)
     w.raw(f'qed W ({TOK} ∷ {OWN} ∷ Tables-at x ∷ []) ∵')
     w.ctx = ['tok', 'own', 'tabs']
-    ws = nest(['tt'] * 3 + [f'x .lists .{n}' for n in NAMES])
-    fit = nest(['tt'] * 3 + [f'x .long .{n}' for n in NAMES])
+    ws = nest(['tt'] * 3, 'lasts-of (x .lists) tt')
+    fit = nest(['tt'] * 3, 'longs (x .long)')
     w.step(f'suffices ! _ (ends-at 𝓤 H A play.ended stayed (play.clauses 𝓤 H A mem run) W ((κs, qs, tt, a, at), tt) (PL′.lowered (result x)) (result x) {ws} {fit})')
     w.step('says ! (plays x none)')
     w.split('tabs', 'toks', 'mines')
@@ -183,16 +172,6 @@ def exits():
     return w.text()
 
 
-def reads(w, goes, contract, known, to, operand, result):
-    """A call of a reader's function: the token and what the file owns give what it asks, and what the file owns is kept."""
-    w.move('tok', 'own')
-    w.takes(f'use2 W (raw ({contract} 𝓤 H A mem run .pre {to}) ⊛ {OWN}) ({goes})', 2, 'z')
-    w.split('z', 'pre', 'own')
-    w.opens(f'calls-at ! fm ({contract} 𝓤 H A mem run) {known} {to} {w.operands([w.load(operand)])} (λ {result}.')
-    w.pop()
-    w.push('post')
-
-
 def turn():
     w = Walk(10)
     w.ctx, w.full = list(ORDER), set(TURNING)
@@ -207,9 +186,9 @@ def turn():
     w.opens('learn ! (λ h.')
     w.takes('drop !', 1)
     w.land(cell(TEST), '(subst (λ (z : Val). Holds (hasTy tyBool z) × WT z) (sym (h .0)) (tt, tt))')
-    w.step(f'rewrite ! {w.at(cell(TEST))} (λ (z : Val). ‵ (fat fullShare tyBool {place(TEST)} 0 z)) (h .0) refl')
+    w.told(TEST, 'tyBool', '(h .0)')
     w.raw(f'whiles ! b {w.load(cell(TEST))}')
-    w.raw('(λ held. by ! (plays-one x b (h .1 .so (is-true b held))))')
+    w.raw('(λ held. plays-one x b (h .1 .so (is-true b held)))')
     w.raw('(λ failed. by ! (leaves x b (λ g. refuted (h .1) (is-false b failed) g)))')
     return w.text()
 
@@ -217,10 +196,9 @@ def turn():
 def body():
     w = Walk(10)
     w.ctx, w.full = list(ORDER), TURNING | {cell(TEST), cell(LENGTH)}
-    w.raw('qed W (Mid x b) ∵ exec ! C Λ Env-of (rest (rest (rest turn-1))) (Q x) $')
     w.assign(cell(READ), f'(of-opd ! {w.load(cell(READER))})', f'(typed {READS} p (x .at) (in-file x))')
     w.note('`next`')
-    reads(w, f'goes-next {READS} (x .at) (in-file x)', 'Next', 'known-next', f'(to-next {READS} (x .at))', cell(READ), 'u')
+    w.reads(OWN, f'goes-next {READS} (x .at) (in-file x)', 'Next', 'known-next', f'(to-next {READS} (x .at))', lambda: [w.load(cell(READ))], 'u')
     w.takes(f'use1 W (later ({TOK} ⊛ ‵ (AC.the-row .own ({ACT}) (u ∷ [])))) (gives-next {READS} (x .at) u)', 1, 'z')
     w.step('await ! tt')
     w.split('z', 'tok', 'act')
@@ -239,22 +217,21 @@ def body():
     w.split('z', 'pre', 'backs')
     w.note('`play_action`')
     w.opens(f'calls-at ! fm (PlayAction 𝓤 H A mem run) known-action (to-action x u N) {w.operands([w.load(cell(ACTION)), w.field(cell(TURNED), 0)] + [w.load(cell(AGAIN[i])) for i in TEN] + [w.field(cell(TURNED), 1)])} (λ r.')
-    w.pop()
-    w.push('post')
+    w.now('post')
     w.move('post', 'backs')
     w.takes(f'use2 W (later (some (λ (y : {GOT}). Held {HELD} 𝓤 (y .lists)))) (regains-all x u N r)', 2, 'tabs')
     w.step('await ! tt')
     w.opens('pick ! (λ y.')
     w.land(cell(TURNED), '(subst (λ (z : Val). Holds (hasTy TR′.mir z) × WT z) (sym (y .told)) (turned-typed (y .turned) (y .is)))')
-    w.step(f'rewrite ! {w.at(cell(TURNED))} (λ (z : Val). ‵ (fat fullShare TR′.mir {place(TURNED)} 0 z)) (y .told) refl')
+    w.told(TURNED, 'TR′.mir', '(y .told)')
     w.assign(cell(MOVED), f'(of-opd ! {w.load(cell(READER))})', f'(typed {READS} p (x .at) (in-file x))')
     w.note('`moved`')
-    reads(w, f'goes-moved {READS} (x .at) (in-file x) (next-in-file x h)', 'Moved', 'known-moved', f'(to-moved {READS} (x .at))', cell(MOVED), 'm')
+    w.reads(OWN, f'goes-moved {READS} (x .at) (in-file x) (next-in-file x h)', 'Moved', 'known-moved', f'(to-moved {READS} (x .at))', lambda: [w.load(cell(MOVED))], 'm')
     w.takes(f'use1 W (later (given (m ≡ mach s (x .at + 5)) {TOK})) (gives-moved {READS} (x .at) m)', 1, 'tok')
     w.step('await ! tt')
     w.opens('learn ! (λ e.')
     w.land(cell(READER), '(typed-at (x .at + 5) (next-in-file x h) m e)')
-    w.step(f'rewrite ! {w.at(cell(READER))} (λ (z : Val). ‵ (fat fullShare reader {place(READER)} 0 z)) e refl')
+    w.told(READER, 'reader', 'e')
     w.step(f'assigns-last ! (bin ! {w.load(cell(LEFT))} (lit ! tt) (h .0)) (from ! (stop !)) (store ! {w.at(cell(LEFT))} refl (tt, record {{ fits = less-fits x }}))')
     for c in sorted(w.full - TURNING, key=lambda c: int(c[1:])):
         w.forget(c)
@@ -280,7 +257,6 @@ def leaves():
 def begins():
     w = Walk(10)
     w.ctx, w.full = ['alive', 'owns', 'deaths'] + ORDER[4:], {cell(i) for i in PASSED}
-    w.raw('qed W Begin ∵ exec ! C Λ Env-of t-1 (atRet Env-of Post) $')
     w.takes(f'use2 W (({TOK} ⊛ {OWN}) ⊛ Tables-at start-state) holds-all', 2, 'z')
     w.split('z', 'z', 'tabs')
     w.split('z', 'tok', 'own')
@@ -296,7 +272,6 @@ def begins():
 def stored():
     w = Walk(10)
     w.ctx = [x for i in reversed(range(N)) for x in (cell(i), f'd{i}')] + ['alive', 'owns']
-    w.raw(f'qed W Rooms-for ∵ storing ! Env-of {ARGUMENTS} (runs C Λ Env-of t-1 (atRet Env-of Post)) $')
     w.step('params1 !')
     w.step('pass1 ! ' + w.write(cell(1), f'(typed {READS} p start start-fits)'))
     w.step('pass1 ! ' + w.write(cell(2), '(tt, record { fits = actions-fits })'))
@@ -308,20 +283,17 @@ def stored():
     w.takes(f'group ! {N}', N, 'deaths')
     w.move('alive', 'owns', 'deaths')
     assert w.ctx == ['alive', 'owns', 'deaths'] + ORDER[4:]
-    w.raw('by ! begins')
+    w.raw('begins')
     return w.text()
 
 
 def walk():
     w = Walk(8)
-    entry = f'({ALIVE} ∷ ‵ (owns {ENTRY} a at) ∷ [])'
-    w.raw(f'qed W {entry} ∵ enter ! C Λ code.function {ARGUMENTS} Post $')
-    w.raw(f'allocates ! (code.function .locals) {entry} (λ E. params′ E {ARGUMENTS} (runs C Λ E (code.function .body) (atRet E Post)))')
-    w.raw('(λ bs. by ! (stored ' + ' '.join('(' + proj('bs', i) + ')' for i in range(N)) + '))')
+    w.raw('qed W (Tokens ∷ ‵ Owned ∷ []) ∵ enter ! C Λ code.function values Post $')
+    w.raw('allocates ! (code.function .locals) (Tokens ∷ ‵ Owned ∷ []) (λ E. params′ E values (runs C Λ E (code.function .body) (atRet E Post)))')
+    places = ' '.join(place(i) for i in range(N))
+    w.raw(f'(λ {places}. stored {places})')
     return w.text()
-
-
-B = '(λ κs. RD.the-row (namedLft 11 0 tt κs))'
 
 
 def write(folder):
@@ -339,13 +311,13 @@ def write(folder):
         'TURNS': turns('act', 's', 'used', 't', 'turned', 'lists'),
         'PLAYS': 'Plays (now s) st (tablesIn lists₀) (lists₀ .way) start actions (lists₀ .text) (result x) (tablesIn (x .lists)) (x .lists .way) (x .lists .text)',
         'PUT': 'going-put (x .going)',
-        'TOKF': TOK, 'OWNF': OWN, 'ATV': AT, 'KSN': KS, 'QSN': QS, 'ARGS': TO, 'AVALS': TO_VALUES, 'ASKF': ASKED, 'ARGM': ARGUMENTS, 'GOT': GOT, 'OFWS': LISTS_OF,
+        'TOKF': TOK, 'OWNF': OWN, 'ATV': AT, 'KSN': KS, 'QSN': QS, 'ARGS': TO, 'AVALS': TO_VALUES, 'ASKF': ASKED, 'ARGM': ARGUMENTS[1:-1], 'ALIVE': ALIVE[1:-1], 'ENTRY': ENTRY, 'GOT': GOT, 'OFWS': LISTS_OF,
         'LS': ' '.join(place(i) for i in range(N)),
         'ENV': ' ∷ '.join(f'({TYPES[i]}, {place(i)})' for i in range(N)) + ' ∷ []',
         'DEATHS': chain([f'‵ (fdies {TYPES[i]} {place(i)})' for i in range(N)]),
         'INV': context(TURNING), 'MID': context(TURNING | {cell(TEST), cell(LENGTH)}),
-        'BEGCTX': context({cell(i) for i in PASSED}, [ALIVE, f'‵ (owns {ENTRY} a at)', 'Deaths']),
-        'ROOMSCTX': ' ∷ '.join(f'‵ (froom {TYPES[i]} {place(i)} 0) ∷ ‵ (fdies {TYPES[i]} {place(i)})' for i in reversed(range(N))) + f' ∷ {ALIVE} ∷ ‵ (owns {ENTRY} a at) ∷ []',
+        'BEGCTX': context({cell(i) for i in PASSED}, ['Tokens', '‵ Owned', 'Deaths']),
+        'ROOMSCTX': ' ∷ '.join(f'‵ (froom {TYPES[i]} {place(i)} 0) ∷ ‵ (fdies {TYPES[i]} {place(i)})' for i in reversed(range(N))) + ' ∷ Tokens ∷ ‵ Owned ∷ []',
         'HOLDS': holds_all(), 'LENDSALL': lends_all(), 'REGAINSALL': regains_all(), 'EXITS': exits(), 'BODY': body(), 'LEAVES': leaves(), 'TURN': turn(), 'BEGINS': begins(), 'STORED': stored(), 'WALK': walk(),
         'TLOOP': 't-4', 'TLEFT': 't-5',
     }

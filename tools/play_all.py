@@ -1,6 +1,6 @@
 """Writes crates/printing/proofs/play_all/Proof.antt, the walk of `printing::play_all`, from play_all.tmpl. Run it again by `tools/walks` after a change."""
-from ten_tables import NAMES, ROWS, TEN, WIDTHS, life, name
-from walk import Walk, chain, filled, nest, proj, sub
+from ten_tables import NAMES, ROWS, TEN, WIDTHS, life
+from walk import Walk, cell, chain, filled, nest, owned_session, owned_word, place, proj
 
 # ---- the locals, as `rt mir printing` shows them: 0 the result; 1 what was read, 2 how much of it is the file, 3 the file, 4 the place and 5 the number of the actions, 6 the session, 7 what is printed, and 8 to 17 the tables passed;
 # then the reader, the session, the actions left over, what is written, what was played, the test, the reader passed on, each table lent again (pointer and slice), the text shared (pointer and slice), the reader moved on
@@ -11,8 +11,6 @@ AGAIN = [26 + 2 * i for i in TEN]
 TEXT_POINTER, TEXT, MOVED = 45, 46, 47
 N = 48
 
-cell = lambda i: f'c{i}'
-place = lambda i: 'l' + sub(i)
 TYPES = {0: 'WR′.mir', 1: '(shared (named 0))', 2: 'word', 3: '(shared (named 1))', 4: 'word', 5: 'word', 6: 'SS′.mir', 7: 'word', READER: 'reader', SESSION: 'SS′.mir', LEFT: 'word', WRITTEN: 'WR′.mir', TEST: 'tyBool', PLAYED: 'PL′.mir',
          PASSED_ON: 'reader', TEXT_POINTER: '(tyRef erased imm (tyInt w8))', TEXT: '(shared erased)', MOVED: 'reader'}
 for i in TEN:
@@ -44,31 +42,22 @@ def context(full, lists=None, first=None):
     return ' ∷ '.join(r) + ' ∷ []'
 
 
-def owned_word(x, fits):
-    return f'owned ! usize (Is usize) (uint-makes 𝓤 H A W w64) {x} _ (refl, {fits})'
-
-
-def owned_session(x, fits):
-    return f'owned ! SS.the-row (Is SS.the-row) (LL.makes SS.the-type SS′.the-plain 𝓤 H A) {x} _ {fits}'
-
-
 # ---- what is passed, and to `play` and `print`
 ALIVE = chain([f'‵ (flft ({proj("κs", i)}) ({proj("qs", i)}))' for i in range(12)] + ['‵ ftrue'])
 ENTRY = '(ShrSlice (named 0) (κs .0) u8 ∷ usize ∷ ShrSlice (named 1) (κs .1 .0) u8 ∷ usize ∷ usize ∷ SS.the-row ∷ usize ∷ ' + ' ∷ '.join(f'MutSlice (named {i + 2}) ({proj("κs", i + 2)}) {ROWS[i]}' for i in TEN) + ' ∷ [])'
 VALUES_PASSED = ['v input', 'vint w64 got', 'v s', 'vint w64 start', 'vint w64 actions', 'SS′.lowered st', 'vint w64 printed'] + [slice_of(i) for i in TEN]
 ARGUMENTS = '(' + ' ∷ '.join(VALUES_PASSED) + ' ∷ [])'
-AT = nest([f'{x} ∷ []' for x in VALUES_PASSED])
-again = lambda i: f'record {{ ptr = ten .{NAMES[i]} .ptr; name = N .{name(i)}; now = x .lists .{NAMES[i]} }}'
+AT = nest([f'{x} ∷ []' for x in VALUES_PASSED[:7]], 'slices ten tt')
 KS = nest(['κ₀'] + [f'(N .{life(i)} ∷ [])' for i in TEN])
 QS = nest(['q₀'] + ['fullShare'] * 10)
-TO = nest(['made s (x .at)', 'x .left', 'x .session'] + [again(i) for i in TEN])
-TO_VALUES = nest(['mach s (x .at) ∷ []', 'vint w64 (x .left) ∷ []', 'SS′.lowered (x .session) ∷ []'] + [f'{slice_of(i)} ∷ []' for i in TEN])
+TO = nest(['made s (x .at)', 'x .left', 'x .session'], 'lents ten N (x .lists) tt')
+TO_VALUES = nest(['mach s (x .at) ∷ []', 'vint w64 (x .left) ∷ []', 'SS′.lowered (x .session) ∷ []'], 'slices ten tt')
 ASKED = f'(fsep (Reads {READS} .own (made s (x .at)) (mach s (x .at) ∷ [])) (fsep (usize .own (x .left) (vint w64 (x .left) ∷ [])) (fsep (SS.the-row .own (x .session) (SS′.lowered (x .session) ∷ [])) (Outs {HELD} N (x .lists) ftrue))))'
 LISTS_OF = 'record { ' + ' '.join(f'{NAMES[i]} = {proj("ws", 3 + i)};' for i in TEN) + ' }'
 OF_WS = 'left-lists x N ws'
 KS_PRINT = '(κᵢ, ((ν ∷ []), tt))'
 QS_PRINT = '(qᵢ, (fullShare, tt))'
-SHARED = 'record { ptr = ten .text .ptr; name = γ; now = y .lists .text }'
+SHARED = 'lent-as (ten .text) γ (y .lists .text)'
 TO_PRINT = nest(['input', 'got', 'x .written .bytes', SHARED, 'y .played .used'])
 TO_PRINT_VALUES = nest(['v input ∷ []', 'vint w64 got ∷ []', 'vint w64 (x .written .bytes) ∷ []', f'{slice_of(9)} ∷ []', 'vint w64 (y .played .used) ∷ []'])
 word = lambda x: f'(usize .own {x} (vint w64 {x} ∷ []))'
@@ -83,7 +72,7 @@ def plays(file, s, t, at, left, r, y):
 
 def holds_all():
     w = Walk(8)
-    w.raw(f'qed W ({ALIVE} ∷ ‵ (owns {ENTRY} a at) ∷ []) ∵')
+    w.raw('qed W (Tokens ∷ ‵ Owned ∷ []) ∵')
     w.ctx = ['alive', 'owns']
     w.split('alive', 'tok-read', 'alive')
     w.split('alive', 'tok', 'toks')
@@ -144,13 +133,13 @@ def regains_all():
     w = Walk(8)
     w.raw('qed W (raw (Play 𝓤 H A mem run .post (to-play x N) u) ∷ ‵ (Kept-of x N) ∷ []) ∵ updating ! $')
     w.ctx = ['post', 'backs']
-    w.step(f'use1 W (later (some (λ (t : Played). ((‵ (flft κ₀ q₀) ⊛ Alive {HELD} 𝓤 N) ⊛ ‵ (PL.the-row .own t (u ∷ []))) ⊛ raw (ensured 𝓤 H A play.ended (play.clauses 𝓤 H A mem run) {KS} {TO} tt t)))) (id⊢ 𝓤 _)')
+    w.step(f'use1 W (later (some (λ (t : Played). ((‵ (flft κ₀ q₀) ⊛ Alive {HELD} 𝓤 N) ⊛ ‵ (PL.the-row .own t (u ∷ []))) ⊛ raw (ensured 𝓤 H A play.ended (play.clauses 𝓤 H A mem run) (lives x N) (passes x N) tt t)))) (id⊢ 𝓤 _)')
     w.step('await ! tt')
     w.opens('pick ! (λ t.')
     w.split('post', 'given', 'ensured')
     w.move('ensured')
     said = plays('(now s)', '(x .session)', '(x .lists)', '(x .at)', '(x .left)', 't', f'({OF_WS})')
-    w.step(f'use1 W (some (λ (ws : Lasts play.ended {KS} {TO}). ‵ (lasts play.ended {KS} {TO} ws) ⊛ raw (fact 𝓤 ({said})))) (id⊢ 𝓤 _)')
+    w.step(f'use1 W (some (λ (ws : Lasts play.ended (lives x N) (passes x N)). ‵ (lasts play.ended (lives x N) (passes x N) ws) ⊛ raw (fact 𝓤 ({said})))) (id⊢ 𝓤 _)')
     w.opens('pick ! (λ ws.')
     w.split('ensured', 'lasts', 'fact')
     w.move('fact')
@@ -219,13 +208,13 @@ def hides_piece():
     w = Walk(10)
     w.raw('qed W (raw (Print 𝓤 H A mem run .post (to-print ν γ) k) ∷ ‵ (Hides ν) ∷ []) ∵ updating ! $')
     w.ctx = ['post', 'hidden']
-    w.step(f'use1 W (later (some (λ (t : Written). ({ALIVE_PRINT} ⊛ ‵ (WR.the-row .own t (k ∷ []))) ⊛ raw (ensured 𝓤 H A print.ended (print.clauses 𝓤 H A mem run) {KS_PRINT} {TO_PRINT} tt t)))) (id⊢ 𝓤 _)')
+    w.step(f'use1 W (later (some (λ (t : Written). ({ALIVE_PRINT} ⊛ ‵ (WR.the-row .own t (k ∷ []))) ⊛ raw (ensured 𝓤 H A print.ended (print.clauses 𝓤 H A mem run) {KS_PRINT} (passes-print ν γ) tt t)))) (id⊢ 𝓤 _)')
     w.step('await ! tt')
     w.opens('pick ! (λ t.')
     w.split('post', 'given', 'ensured')
     w.move('ensured')
-    said = '(t .failed ≡ true) ⊎ (t .bytes ≡ x .written .bytes + y .played .used)'
-    w.step(f'use1 W (some (λ (ws : Lasts print.ended {KS_PRINT} {TO_PRINT}). ‵ (lasts print.ended {KS_PRINT} {TO_PRINT} ws) ⊛ raw (fact 𝓤 ({said})))) (id⊢ 𝓤 _)')
+    said = 'WrittenTo t (x .written .bytes + y .played .used)'
+    w.step(f'use1 W (some (λ (ws : Lasts print.ended {KS_PRINT} (passes-print ν γ)). ‵ (lasts print.ended {KS_PRINT} (passes-print ν γ) ws) ⊛ raw (fact 𝓤 ({said})))) (id⊢ 𝓤 _)')
     w.opens('pick ! (λ ws.')
     w.split('ensured', 'lasts', 'fact')
     w.move('fact')
@@ -253,8 +242,8 @@ def exits():
     w = Walk(8)
     w.raw(f'qed W ({TOK} ∷ {OWN} ∷ {TOK_READ} ∷ ‵ OwnRead ∷ Tables-at (x .lists) ∷ []) ∵')
     w.ctx = ['tok', 'own', 'tok-read', 'own-read', 'tabs']
-    ws = nest(['tt'] * 7 + [f'x .lists .{n}' for n in NAMES])
-    fit = nest(['tt'] * 7 + [f'x .long .{n}' for n in NAMES])
+    ws = nest(['tt'] * 7, 'lasts-of (x .lists) tt')
+    fit = nest(['tt'] * 7, 'longs (x .long)')
     w.step(f'suffices ! _ (ends-at 𝓤 H A play-all.ended stayed (play-all.clauses 𝓤 H A mem run) W ((κs, qs, tt, a, at), tt) (WR′.lowered (x .written)) (x .written) {ws} {fit})')
     w.step('says ! (ends-here x failed)')
     w.split('tabs', 'toks', 'mines')
@@ -285,23 +274,13 @@ def exits():
     return w.text()
 
 
-def reads(w, goes, contract, known, to, operands, result):
-    """A call of a reader's function: the token and what the file owns give what it asks, and what the file owns is kept."""
-    w.move('tok', 'own')
-    w.takes(f'use2 W (raw ({contract} 𝓤 H A mem run .pre {to}) ⊛ {OWN}) ({goes})', 2, 'z')
-    w.split('z', 'pre', 'own')
-    w.opens(f'calls-at ! fm ({contract} 𝓤 H A mem run) {known} {to} {w.operands(operands())} (λ {result}.')
-    w.pop()
-    w.push('post')
-
-
 def turn():
     w = Walk(10)
     w.ctx, w.full = list(ORDER), set(TURNING)
     w.raw('qed W (Inv x) ∵ exec ! C Λ Env-of turn-1 (Q x) $')
     w.assign(cell(TEST), f'(bin ! (lit ! tt) {w.load(cell(LEFT))} tt)', '(tt, tt)')
     w.raw(f'whiles ! (ltb 0 (x .left)) {w.load(cell(TEST))}')
-    w.raw('(λ held. by ! (plays-piece x (some-left x held)))')
+    w.raw('(λ held. plays-piece x (some-left x held))')
     w.raw('(λ failed. by ! (leaves x failed))')
     return w.text()
 
@@ -309,7 +288,6 @@ def turn():
 def body():
     w = Walk(10)
     w.ctx, w.full = list(ORDER), TURNING | {cell(TEST)}
-    w.raw('qed W (Mid x) ∵ exec ! C Λ Env-of (rest (rest turn-1)) (Q x) $')
     w.assign(cell(PASSED_ON), f'(of-opd ! {w.load(cell(READER))})', f'(typed {READS} p (x .at) (x .at-fits))')
     w.note('the ten tables are lent again')
     for i in TEN:
@@ -325,27 +303,25 @@ def body():
     w.move('pre')
     w.note('`play`')
     w.opens(f'calls-at ! fm (Play 𝓤 H A mem run) known-play (to-play x N) {w.operands([w.load(cell(PASSED_ON)), w.load(cell(LEFT)), w.load(cell(SESSION))] + [w.load(cell(AGAIN[i])) for i in TEN])} (λ u.')
-    w.pop()
-    w.push('post')
+    w.now('post')
     w.move('post', 'backs')
     w.takes(f'use2 W (later (some (λ (y : Y x u). {TOK} ⊛ Tables-at (y .lists)))) (regains-all x N u)', 2, 'z')
     w.step('await ! tt')
     w.opens('pick ! (λ y.')
     w.split('z', 'tok', 'tabs')
     w.land(cell(PLAYED), '(subst (λ (z : Val). Holds (hasTy PL′.mir z) × WT z) (sym (y .told)) (played-typed (y .played) (y .is)))')
-    w.step(f'rewrite ! {w.at(cell(PLAYED))} (λ (z : Val). ‵ (fat fullShare PL′.mir {place(PLAYED)} 0 z)) (y .told) refl')
+    w.told(PLAYED, 'PL′.mir', '(y .told)')
     for c in sorted(w.full - TURNING - {cell(PLAYED)}, key=lambda c: int(c[1:])):
         w.forget(c)
     w.move(*BESIDE)
     assert w.ctx == ORDER, w.ctx
-    w.raw('by ! (prints-piece x m y)')
+    w.raw('prints-piece x m y')
     return w.text()
 
 
 def prints():
     w = Walk(10)
     w.ctx, w.full = list(ORDER), TURNING | {cell(PLAYED)}
-    w.raw('qed W (Full x y) ∵ exec ! C Λ Env-of printing-on (Q x) $')
     t = cell(TABLE[9])
     w.note('the text is shared')
     w.assign(cell(TEXT_POINTER), f'(addr ! (from ! (fld ! refl (hop ! (look-in ! {w.at(t)} (sub ! 0 refl (whole !))) (stop !)))))', '(tt, tt)')
@@ -360,23 +336,22 @@ def prints():
     w.move('pre')
     w.note('`print`')
     w.opens(f'calls-at ! fm (Print 𝓤 H A mem run) known-print (to-print x m y ν γ) {w.operands([w.load(cell(1)), w.load(cell(2)), w.field(cell(WRITTEN), 0), w.load(cell(TEXT)), w.field(cell(PLAYED), 3)])} (λ k.')
-    w.pop()
-    w.push('post')
+    w.now('post')
     w.move('post', 'hidden')
     w.takes(f'use2 W (later (some (λ (z : {HANDED} k). {TOK_READ} ⊛ Tables-at (y .lists)))) (hides-piece x m y ν γ k)', 2, 'z')
     w.step('await ! tt')
     w.opens('pick ! (λ z.')
     w.split('z', 'tok-read', 'tabs')
     w.land(cell(WRITTEN), '(subst (λ (z : Val). Holds (hasTy WR′.mir z) × WT z) (sym (z .told)) (written-typed (z .written) (z .is)))')
-    w.step(f'rewrite ! {w.at(cell(WRITTEN))} (λ (z : Val). ‵ (fat fullShare WR′.mir {place(WRITTEN)} 0 z)) (z .told) refl')
+    w.told(WRITTEN, 'WR′.mir', '(z .told)')
     w.assign(cell(MOVED), f'(of-opd ! {w.load(cell(READER))})', f'(typed {READS} p (x .at) (x .at-fits))')
     w.note('`moved_to`')
-    reads(w, f'goes-moved-to {READS} (x .at) (y .played .at) (x .at-fits) (place-fits x m y)', 'MovedTo', 'known-moved-to', f'(to-moved-to {READS} (x .at) (y .played .at))', lambda: [w.load(cell(MOVED)), w.field(cell(PLAYED), 1)], 'r')
+    w.reads(OWN, f'goes-moved-to {READS} (x .at) (y .played .at) (x .at-fits) (place-fits x m y)', 'MovedTo', 'known-moved-to', f'(to-moved-to {READS} (x .at) (y .played .at))', lambda: [w.load(cell(MOVED)), w.field(cell(PLAYED), 1)], 'r')
     w.takes(f'use1 W (later (given (r ≡ mach s (y .played .at)) {TOK})) (gives-moved-to {READS} (x .at) (y .played .at) r)', 1, 'tok')
     w.step('await ! tt')
     w.opens('learn ! (λ e.')
     w.land(cell(READER), '(typed-at (y .played .at) (place-fits x m y) r e)')
-    w.step(f'rewrite ! {w.at(cell(READER))} (λ (z : Val). ‵ (fat fullShare reader {place(READER)} 0 z)) e refl')
+    w.told(READER, 'reader', 'e')
     w.note('`left_over`')
     over = '(z .written) (z .is) (y .played .left) (over-fits x m y)'
     w.takes(f'use0 W (raw (LeftOver 𝓤 H A mem run .pre (to-left {over}))) (asks-left {over})', 0, 'pre')
@@ -386,7 +361,7 @@ def prints():
     w.opens('learn ! (λ o.')
     w.takes('drop !', 1)
     w.land(cell(LEFT), '(subst (λ (z : Val). Holds (hasTy word z) × WT z) (sym (o .told)) (tt, record { fits = o .fits }))')
-    w.step(f'rewrite ! {w.at(cell(LEFT))} (λ (z : Val). ‵ (fat fullShare word {place(LEFT)} 0 z)) (o .told) refl')
+    w.told(LEFT, 'word', '(o .told)')
     w.step(f'assigns-last ! (of-opd ! {w.field(cell(PLAYED), 0)}) (from ! (stop !)) (store ! {w.at(cell(SESSION))} refl (session-typed (y .played .session) (played-session-is x m y)))')
     for c in sorted(w.full - TURNING, key=lambda c: int(c[1:])):
         w.forget(c)
@@ -411,19 +386,18 @@ def leaves():
 def begins():
     w = Walk(10)
     w.ctx, w.full = ['alive', 'owns', 'deaths'] + ORDER[6:], {cell(i) for i in PASSED}
-    w.raw('qed W Begin ∵ exec ! C Λ Env-of t-1 (atRet Env-of Post) $')
     w.takes(f'use2 W (({TOK} ⊛ {OWN}) ⊛ (({TOK_READ} ⊛ ‵ OwnRead) ⊛ Tables-at lists₀)) holds-all', 2, 'z')
     w.split('z', 'f', 'z')
     w.split('z', 'r', 'tabs')
     w.split('r', 'tok-read', 'own-read')
     w.split('f', 'tok', 'own')
     w.note('`reading`')
-    reads(w, f'goes-reading {READS} start start-fits', 'Reading', 'known-reading', f'(to-reading {READS} start)', lambda: [w.load(cell(3)), w.load(cell(4))], 'u')
+    w.reads(OWN, f'goes-reading {READS} start start-fits', 'Reading', 'known-reading', f'(to-reading {READS} start)', lambda: [w.load(cell(3)), w.load(cell(4))], 'u')
     w.takes(f'use1 W (later (given (u ≡ mach s start) {TOK})) (gives-reading {READS} start u)', 1, 'tok')
     w.step('await ! tt')
     w.opens('learn ! (λ e.')
     w.land(cell(READER), '(typed-at start start-fits u e)')
-    w.step(f'rewrite ! {w.at(cell(READER))} (λ (z : Val). ‵ (fat fullShare reader {place(READER)} 0 z)) e refl')
+    w.told(READER, 'reader', 'e')
     w.assign(cell(SESSION), f'(of-opd ! {w.load(cell(6))})', '(session-typed st st-is)')
     w.assign(cell(LEFT), f'(of-opd ! {w.load(cell(5))})', '(tt, record { fits = actions-fits })')
     w.assign(cell(WRITTEN), f'(agg ! {w.operands([w.load(cell(7)), "(false-lit !)"])})', '(written-typed first-written first-written-is)')
@@ -436,7 +410,6 @@ def begins():
 def stored():
     w = Walk(10)
     w.ctx = [x for i in reversed(range(N)) for x in (cell(i), f'd{i}')] + ['alive', 'owns']
-    w.raw(f'qed W Rooms-for ∵ storing ! Env-of {ARGUMENTS} (runs C Λ Env-of t-1 (atRet Env-of Post)) $')
     w.step('params1 !')
     slice_typed = lambda ℓ, κ, x, f: f'(shr-slice-lawful 𝓤 H A W (named {ℓ}) {κ} u8 .typed {x} (v {x} ∷ []) {f} .0)'
     word_typed = lambda f: f'(tt, record {{ fits = {f} }})'
@@ -449,16 +422,16 @@ def stored():
     w.takes(f'group ! {N}', N, 'deaths')
     w.move('alive', 'owns', 'deaths')
     assert w.ctx == ['alive', 'owns', 'deaths'] + ORDER[6:]
-    w.raw('by ! begins')
+    w.raw('begins')
     return w.text()
 
 
 def walk():
     w = Walk(8)
-    entry = f'({ALIVE} ∷ ‵ (owns {ENTRY} a at) ∷ [])'
-    w.raw(f'qed W {entry} ∵ enter ! C Λ code.function {ARGUMENTS} Post $')
-    w.raw(f'allocates ! (code.function .locals) {entry} (λ E. params′ E {ARGUMENTS} (runs C Λ E (code.function .body) (atRet E Post)))')
-    w.raw('(λ bs. by ! (stored ' + ' '.join('(' + proj('bs', i) + ')' for i in range(N)) + '))')
+    w.raw('qed W (Tokens ∷ ‵ Owned ∷ []) ∵ enter ! C Λ code.function values Post $')
+    w.raw('allocates ! (code.function .locals) (Tokens ∷ ‵ Owned ∷ []) (λ E. params′ E values (runs C Λ E (code.function .body) (atRet E Post)))')
+    places = ' '.join(place(i) for i in range(N))
+    w.raw(f'(λ {places}. stored {places})')
     return w.text()
 
 
@@ -481,14 +454,14 @@ def write(folder):
         'TEN': 'record { ' + ' '.join(f'{NAMES[i]} = {proj("a", 7 + i)};' for i in TEN) + ' }',
         'PLAYED': plays('file', 's', 't', 'at', 'left', 'played', 'lists'),
         'PRINTINGON': printing_on,
-        'TOKF': TOK, 'TOKI': TOK_READ, 'OWNF': OWN, 'ATV': AT, 'KSN': KS, 'QSN': QS, 'ARGS': TO, 'AVALS': TO_VALUES, 'ASKF': ASKED, 'ARGM': ARGUMENTS, 'OFWS': LISTS_OF,
+        'TOKF': TOK, 'TOKI': TOK_READ, 'OWNF': OWN, 'ATV': AT, 'KSN': KS, 'QSN': QS, 'ARGS': TO, 'AVALS': TO_VALUES, 'ASKF': ASKED, 'ARGM': ARGUMENTS[1:-1], 'ALIVE': ALIVE[1:-1], 'ENTRY': ENTRY, 'OFWS': LISTS_OF,
         'KSP': KS_PRINT, 'QSP': QS_PRINT, 'ARGSP': TO_PRINT, 'AVALSP': TO_PRINT_VALUES, 'ALIVEP': ALIVE_PRINT, 'ASKP': ASKED_PRINT,
         'LS': ' '.join(place(i) for i in range(N)),
         'ENV': ' ∷ '.join(f'({TYPES[i]}, {place(i)})' for i in range(N)) + ' ∷ []',
         'DEATHS': chain([f'‵ (fdies {TYPES[i]} {place(i)})' for i in range(N)]),
         'INV': context(TURNING, 'x'), 'MID': context(TURNING | {cell(TEST)}, 'x'), 'FULL': context(TURNING | {cell(PLAYED)}, 'y'),
-        'BEGCTX': context({cell(i) for i in PASSED}, None, [ALIVE, f'‵ (owns {ENTRY} a at)', 'Deaths']),
-        'ROOMSCTX': ' ∷ '.join(f'‵ (froom {TYPES[i]} {place(i)} 0) ∷ ‵ (fdies {TYPES[i]} {place(i)})' for i in reversed(range(N))) + f' ∷ {ALIVE} ∷ ‵ (owns {ENTRY} a at) ∷ []',
+        'BEGCTX': context({cell(i) for i in PASSED}, None, ['Tokens', '‵ Owned', 'Deaths']),
+        'ROOMSCTX': ' ∷ '.join(f'‵ (froom {TYPES[i]} {place(i)} 0) ∷ ‵ (fdies {TYPES[i]} {place(i)})' for i in reversed(range(N))) + ' ∷ Tokens ∷ ‵ Owned ∷ []',
         'HOLDS': holds_all(), 'LENDSALL': lends_all(), 'REGAINSALL': regains_all(), 'SHOWSPIECE': shows_piece(), 'HIDESPIECE': hides_piece(), 'EXITS': exits(), 'BODY': body(), 'PRINTS': prints(), 'LEAVES': leaves(), 'TURN': turn(),
         'BEGINS': begins(), 'STORED': stored(), 'WALK': walk(),
         'TLOOP': 't-5', 'TLEFT': 't-6',

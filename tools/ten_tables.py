@@ -1,5 +1,5 @@
 """Writes crates/play/proofs/TenTables.antt, and names the ten tables for the walks of `play` and `play_all`. Run it again by `tools/walks` after a change."""
-from walk import Walk, chain, filled, items, nest, proj, sub
+from walk import Walk, chain, filled, nest, proj, sub
 
 NAMES = ['plan', 'g', 'rhs', 'parent', 'k1', 'k2', 'place', 'list', 'way', 'text']
 ROWS = ['u8', 'u32', 'u32', 'u8', 'u32', 'u32', 'u16', 'u16', 'u16', 'u8']
@@ -168,6 +168,11 @@ def write(folder):
         'ASLONG': fields(lambda i: f'length (x .{NAMES[i]}) ≡ length (y .{NAMES[i]})'),
         'ROOMS': fields(lambda i: f'Room {ROWS[i]} (length (x .{NAMES[i]}))'),
         'NAMES': '\n'.join(f'  pub {life(i)} : ℕ\n  pub {name(i)} : GName' for i in TEN),
+        'SLICES': ' '.join(f'(sliceVal (t .{n} .ptr) (length (t .{n} .now)) ∷ [])' for n in NAMES),
+        'LENTS': ' '.join(f'(lent-as (t .{NAMES[i]}) (N .{name(i)}) (x .{NAMES[i]}))' for i in TEN),
+        'LASTS': ' '.join(f'(x .{n})' for n in NAMES),
+        'LONGS': ' '.join(f'(length (x .{n}) ≡ length (y .{n})) × (' for n in NAMES), 'LONGSEND': ')' * 10,
+        'LONGPAIRS': nest([f'l .{n}' for n in NAMES]),
         'EIGHT': ' '.join(f'(x .{NAMES[i]})' for i in range(8)),
         'FIRST': ' '.join(f'{n} = t .{n} .now;' for n in NAMES),
         'TRANS': ' '.join(f'{n} = a .{n} ∙ b .{n};' for n in NAMES),

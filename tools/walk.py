@@ -25,14 +25,29 @@ def chain(xs):
     return r
 
 
-def items(xs):
-    """A context."""
-    return '(' + ' ∷ '.join(xs) + ' ∷ [])'
-
-
 def proj(base, k):
     """The k-th of a nested pair."""
     return base + ' .1' * k + ' .0'
+
+
+def cell(i):
+    """What a local holds, in the context."""
+    return f'c{i}'
+
+
+def place(i):
+    """A local's block."""
+    return 'l' + sub(i)
+
+
+def owned_word(x, fits):
+    """What a number owns, made of its facts."""
+    return f'owned ! usize (Is usize) (uint-makes 𝓤 H A W w64) {x} _ (refl, {fits})'
+
+
+def owned_session(x, fits):
+    """What a session's record owns, made of its facts."""
+    return f'owned ! SS.the-row (Is SS.the-row) (LL.makes SS.the-type SS′.the-plain 𝓤 H A) {x} _ {fits}'
 
 
 def broken(line, width=WIDTH):
@@ -48,7 +63,7 @@ def broken(line, width=WIDTH):
                 depth -= 1
             elif c == ' ' and i > width // 3:
                 after = line[i + 1:i + 2]
-                if after in '.!∷⊛,)' or line[i - 1] in 'λ‵=':
+                if after in '.!∷⊛,)=' or line[i + 1:].startswith('[]') or line[i - 1] in 'λ‵=':
                     continue
                 cost = {'$': -4, '∷': -2, '⊛': -2}.get(line[i - 1], 0)
                 score = 2 * depth + cost + (width - i) / 12
@@ -218,6 +233,23 @@ class Walk:
     def forget(self, c):
         self.step(f'forget ! {self.at(c)} refl')
         self.full.discard(c)
+
+    def reads(self, own, goes, contract, known, to, operands, result):
+        """A call of a reader's function: the token and what the file owns give what it asks, and what the file owns is kept."""
+        self.move('tok', 'own')
+        self.takes(f'use2 W (raw ({contract} 𝓤 H A mem run .pre {to}) ⊛ {own}) ({goes})', 2, 'z')
+        self.split('z', 'pre', 'own')
+        self.opens(f'calls-at ! fm ({contract} 𝓤 H A mem run) {known} {to} {self.operands(operands())} (λ {result}.')
+        self.now('post')
+
+    def now(self, n):
+        """What stands first is now n."""
+        self.pop()
+        self.push(n)
+
+    def told(self, i, typ, e):
+        """What a local holds, rewritten by an equation."""
+        self.step(f'rewrite ! {self.at(cell(i))} (λ (z : Val). ‵ (fat fullShare {typ} {place(i)} 0 z)) {e} refl')
 
     def frees(self, n):
         """Each local and its `fdies` beside it."""

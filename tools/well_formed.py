@@ -1,12 +1,10 @@
 """Writes crates/drill_file/proofs/well_formed/Proof.antt, the walk of `drill_file::well_formed`, from well_formed.tmpl. Run it again by `tools/walks` after a change."""
-from walk import Walk, filled, sub
+from walk import Walk, cell, filled, place
 
 # ---- the locals, as `rt mir drill_file` shows them: 0 the result; 1 the file, 2 the place and 3 the number of the actions passed; then the reader, the actions left, the test, whether the action is bad, the action, the reader read, the reader moved on
 READER, LEFT, TEST, BAD, ACTION, READ, MOVED = range(4, 11)
 N = 11
 
-cell = lambda i: f'c{i}'
-place = lambda i: 'l' + sub(i)
 PLACES = ' '.join(place(i) for i in range(N))
 TYPES = {0: 'tyBool', 1: 'slice', 2: 'word', 3: 'word', READER: 'reader', LEFT: 'word', TEST: 'tyBool', BAD: 'tyBool', ACTION: 'action', READ: 'reader', MOVED: 'reader'}
 VALUES = {1: 'v s', 2: 'vint w64 start', 3: 'vint w64 actions', READER: 'mach s (x .at)', LEFT: 'vint w64 (x .left)'}
@@ -15,20 +13,6 @@ TOK = '(‵ (flft κ q) ⊛ ‵ ftrue)'
 OWN = f'‵ (Own {READS})'
 ACT = '(actionAt (now s) (x .at))'
 ORDER = ['own', 'tok'] + [x for i in reversed(range(N)) for x in (cell(i), f'd{i}')]
-
-
-def reads(w, goes, contract, known, to, operands, result):
-    """A call of a reader's function: the token and what the file owns give what it asks, and what the file owns is kept."""
-    w.move('tok', 'own')
-    w.takes(f'use2 W (raw ({contract} 𝓤 H A mem run .pre {to}) ⊛ {OWN}) ({goes})', 2, 'z')
-    w.split('z', 'pre', 'own')
-    w.opens(f'calls-at ! fm ({contract} 𝓤 H A mem run) {known} {to} {w.operands(operands())} (λ {result}.')
-    w.pop()
-    w.push('post')
-
-
-def rewrites(w, i, e):
-    w.step(f'rewrite ! {w.at(cell(i))} (λ (z : Val). ‵ (fat fullShare {TYPES[i]} {place(i)} 0 z)) {e} refl')
 
 
 def walk():
@@ -47,12 +31,12 @@ def walk():
     w.fsplit('owns', 'own', 'numbers')
     w.drop('numbers')
     w.note('`reading`')
-    reads(w, f'goes-reading {READS} start start-fits', 'Reading', 'known-reading', f'(to-reading {READS} start)', lambda: [w.load(cell(1)), w.load(cell(2))], 'u')
+    w.reads(OWN, f'goes-reading {READS} start start-fits', 'Reading', 'known-reading', f'(to-reading {READS} start)', lambda: [w.load(cell(1)), w.load(cell(2))], 'u')
     w.takes(f'use1 W (later (given (u ≡ mach s start) {TOK})) (gives-reading {READS} start u)', 1, 'tok')
     w.step('await ! tt')
     w.opens('learn ! (λ e.')
     w.land(cell(READER), '(typed-at start start-fits u e)')
-    rewrites(w, READER, 'e')
+    w.told(READER, TYPES[READER], 'e')
     w.assign(cell(LEFT), f'(of-opd ! {w.load(cell(3))})', '(tt, record { fits = actions-fits })')
     w.note('the loop')
     w.keep(*ORDER)
@@ -63,7 +47,7 @@ def walk():
     w.opens(f'whiles ! (ltb 0 (x .left)) {w.load(cell(TEST))} (λ held.')
     w.note('`next`')
     w.assign(cell(READ), f'(of-opd ! {w.load(cell(READER))})', f'(typed {READS} p (x .at) (in-file x))')
-    reads(w, f'goes-next {READS} (x .at) (in-file x)', 'Next', 'known-next', f'(to-next {READS} (x .at))', lambda: [w.load(cell(READ))], 'u₁')
+    w.reads(OWN, f'goes-next {READS} (x .at) (in-file x)', 'Next', 'known-next', f'(to-next {READS} (x .at))', lambda: [w.load(cell(READ))], 'u₁')
     w.takes(f'use1 W (later ({TOK} ⊛ ‵ (S.the-row .own {ACT} (u₁ ∷ [])))) (gives-next {READS} (x .at) u₁)', 1, 'z')
     w.step('await ! tt')
     w.split('z', 'tok', 'act')
@@ -78,7 +62,7 @@ def walk():
     w.opens('learn ! (λ e₂.')
     w.takes('drop !', 1)
     w.land(cell(BAD), '(subst (λ (z : Val). Holds (hasTy tyBool z) × WT z) (sym e₂) (tt, tt))')
-    rewrites(w, BAD, 'e₂')
+    w.told(BAD, TYPES[BAD], 'e₂')
     forked = list(w.ctx), set(w.full)
     w.opens(f'forks ! (isBad {ACT}) {w.load(cell(BAD))} (λ bad.')
     w.assign(cell(0), '(of-opd ! (false-lit !))', '(tt, tt)')
@@ -90,12 +74,12 @@ def walk():
     w.raw('(λ good.')
     w.ctx, w.full = forked
     w.assign(cell(MOVED), f'(of-opd ! {w.load(cell(READER))})', f'(typed {READS} p (x .at) (in-file x))')
-    reads(w, f'goes-moved {READS} (x .at) (in-file x) (next-in-file x held)', 'Moved', 'known-moved', f'(to-moved {READS} (x .at))', lambda: [w.load(cell(MOVED))], 'u₃')
+    w.reads(OWN, f'goes-moved {READS} (x .at) (in-file x) (next-in-file x held)', 'Moved', 'known-moved', f'(to-moved {READS} (x .at))', lambda: [w.load(cell(MOVED))], 'u₃')
     w.takes(f'use1 W (later (given (u₃ ≡ mach s (x .at + 5)) {TOK})) (gives-moved {READS} (x .at) u₃)', 1, 'tok')
     w.step('await ! tt')
     w.opens('learn ! (λ e₃.')
     w.land(cell(READER), '(typed-at (x .at + 5) (next-in-file x held) u₃ e₃)')
-    rewrites(w, READER, 'e₃')
+    w.told(READER, TYPES[READER], 'e₃')
     w.step(f'assigns-last ! (bin ! {w.load(cell(LEFT))} (lit ! tt) (some-left x held)) (from ! (stop !)) (store ! {w.at(cell(LEFT))} refl (tt, record {{ fits = less-fits x held }}))')
     for i in (TEST, BAD, ACTION, READ, MOVED):
         w.forget(cell(i))

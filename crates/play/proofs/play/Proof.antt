@@ -6,7 +6,7 @@
 use mathlib.Core.Path.{_≡_, refl, sym, ap, subst}
 use mathlib.Core.Bool.{Bool, true, false, not}
 use mathlib.Core.WellFounded.{WellFounded, InvImage·wf}
-use Prim.Native.Nat.{ℕ, _+_, _*_, _-_, _<_, _≤_, _^_}
+use Prim.Native.Nat.{ℕ, _+_, _-_, _<_, _≤_, _^_}
 use native.Mathlib.Omega.{arith}
 use mathlib.Core.List.{List, [], _∷_}
 use lib.Dec.{T as Holds}
@@ -20,13 +20,13 @@ use base.Logic.{SProp, ent, sep, ex, guard, emp, snd∗, exE, id⊢}
 use base.Fml.{Lft, Share, Fml, ftrue, fsep, fat, froom, fdies, flft}
 use prog.Memory.{Memory}
 use prog.Routine.{Routine}
-use prog.Wp.{Heap, Out as Way, Env, Calls, Loops, WpFn, Tables as RunTables, Wp, afterSeq, afterBlock, afterTurn, atReturn, params}
+use prog.Wp.{Heap, Out as Way, Env, Calls, Loops, WpFn, Tables as RunTables, Wp, afterSeq, afterBlock, afterTurn, atReturn}
 use ghost.Atoms.{Atoms, sem}
 use contract.Lifetimes.{Lfts, Shares}
 use contract.Monad.{Fun, fact}
 use contract.Running.{givenOf, tables as tablesAt, tablesOf}
-use types.Kit.{Given, Item, ‵, raw, mean, _⊛_, given, ⋆, some, later, Post as WalkPost, anyQ, post, atRet, runs, params′, _$_, _∵_, !, qed, by, move, keep, group, drop, use0, use1, use2, use3, split}
-use types.Kit.{join, pick, learn, rewrite, check, fsplit, fjoin, suffices, frame, await, updating, now as at-once, show, done}
+use types.Kit.{Given, Sq, Item, ‵, raw, mean, _⊛_, given, ⋆, some, later, Post as WalkPost, anyQ, post, atRet, runs, params′, _$_, _∵_, !, qed, by, move, keep, group, drop, use0, use1, use2, use3}
+use types.Kit.{split, join, pick, learn, rewrite, check, fsplit, fjoin, suffices, frame, await, updating, now as at-once, show, done}
 use types.Part.{whole, sub, look-in, agg}
 use types.Run.{look, init, store, forget, stop, hop, fld, from, load, lit, of-opd, bin, addr, and-then, no-more, assigns, assigns-last, land, exec, returns, again, Below, enter, params1, pass1, pass0}
 use types.Run.{free1, free0}
@@ -54,7 +54,7 @@ use Rattle.decide.specs.Decides.{Decides}
 use Rattle.decide.proofs.DecideLaws.{refuted}
 use Rattle.lines.specs.Text.{room}
 use Rattle.tables.specs.declared.Session.{Session}
-use Rattle.tables.specs.Lent.{Tables, cells}
+use Rattle.tables.specs.Lent.{cells}
 use Rattle.tables.proofs.Session as SS
 use Rattle.tables.proofs.Session.Laws as SS′
 use Rattle.drill_file.specs.File.{actionAt}
@@ -63,7 +63,7 @@ use Rattle.drill_file.proofs.Action as AC
 use Rattle.drill_file.proofs.Action.Laws as AC′
 use Rattle.drill_file.proofs.Reader as RD
 use Rattle.drill_file.proofs.Reader.Laws as RD′
-use Rattle.drill_file.proofs.LoopSteps.{rest, whiles, allocates, storing}
+use Rattle.drill_file.proofs.LoopSteps.{rest, whiles, allocates}
 use Rattle.drill_file.proofs.OneReader.{Next, Moved, v, made, mach, Reads, Own, typed, holds, lays-open, to-next, goes-next, gives-next, to-moved, goes-moved, gives-moved}
 use Rattle.drill_file.proofs.next.Symbol as next-def
 use Rattle.drill_file.proofs.next.Symbol.{name as #drill-file·next}
@@ -87,7 +87,7 @@ use Rattle.drill.proofs.play_action as play-action
 use Rattle.drill.proofs.play_action.Symbol as play-action-def
 use Rattle.drill.proofs.play_action.Symbol.{name as #drill·play-action}
 use Rattle.drill.proofs.play_action.Met as play-action-thm
-use Rattle.play.proofs.TenTables.{Passed, Lists, listsOf, tablesIn, AsLong, as-long, same-long, Rooms, Names, Outs, Backs, Alive, Held, lends-ten, regains-ten}
+use Rattle.play.proofs.TenTables.{Passed, Lists, listsOf, tablesIn, slices, lents, lasts-of, longs, AsLong, as-long, same-long, Rooms, Names, Outs, Backs, Alive, Held, lends-ten, regains-ten}
 use Rattle.play.proofs.play.Key.{name as #play·play}
 use Rattle.play.proofs.play as play
 use Rattle.play.proofs.play.Statement as stated
@@ -206,8 +206,7 @@ module _ {M : Type 1} (𝓤 : URA M) (H : Heap 𝓤) (A : Atoms 𝓤) (W : Given
     parent = a .1 .1 .1 .1 .1 .1 .0;
     k1 = a .1 .1 .1 .1 .1 .1 .1 .0;
     k2 = a .1 .1 .1 .1 .1 .1 .1 .1 .0;
-    place
-        = a .1 .1 .1 .1 .1 .1 .1 .1 .1 .0;
+    place = a .1 .1 .1 .1 .1 .1 .1 .1 .1 .0;
     list = a .1 .1 .1 .1 .1 .1 .1 .1 .1 .1 .0;
     way = a .1 .1 .1 .1 .1 .1 .1 .1 .1 .1 .1 .0;
     text = a .1 .1 .1 .1 .1 .1 .1 .1 .1 .1 .1 .1 .0;
@@ -217,43 +216,25 @@ module _ {M : Type 1} (𝓤 : URA M) (H : Heap 𝓤) (A : Atoms 𝓤) (W : Given
   lists₀ = listsOf ten
 
   abbrev at : Vals play.signature κs
-  at = (
-    mach s start ∷ [],
-    (
-      vint w64 actions ∷ [],
-      (
-        SS′.lowered st ∷ [],
-        (
-          sliceVal (ten .plan .ptr) (length (lists₀ .plan)) ∷ [],
-          (
-            sliceVal (ten .g .ptr) (length (lists₀ .g)) ∷
-                [],
-            (
-              sliceVal (ten .rhs .ptr) (length (lists₀ .rhs)) ∷ [],
-              (
-                sliceVal (ten .parent .ptr) (length (lists₀ .parent)) ∷ [],
-                (
-                  sliceVal (ten .k1 .ptr) (length (lists₀ .k1)) ∷
-                      [],
-                  (
-                    sliceVal (ten .k2 .ptr) (length (lists₀ .k2)) ∷ [],
-                    (
-                      sliceVal (ten .place .ptr) (length (lists₀ .place)) ∷ [],
-                      (
-                        sliceVal (ten .list .ptr) (length (lists₀ .list)) ∷
-                            [],
-                        (sliceVal (ten .way .ptr) (length (lists₀ .way)) ∷ [], (sliceVal (ten .text .ptr) (length (lists₀ .text)) ∷ [], tt)),
-                      ),
-                    ),
-                  ),
-                ),
-              ),
-            ),
-          ),
-        ),
-      ),
-    ),
-  )
+  at = (mach s start ∷ [], (vint w64 actions ∷ [], (SS′.lowered st ∷ [], slices ten tt)))
+
+  -- the machine values, and what is had at entry
+  abbrev values : List Val
+  values = mach s start ∷ vint w64 actions ∷ SS′.lowered st ∷ sliceVal (ten .plan .ptr) (length (lists₀ .plan)) ∷ sliceVal (ten .g .ptr) (length (lists₀ .g)) ∷ sliceVal (ten .rhs .ptr)
+      (length (lists₀ .rhs)) ∷ sliceVal (ten .parent .ptr) (length (lists₀ .parent)) ∷ sliceVal (ten .k1 .ptr) (length (lists₀ .k1)) ∷ sliceVal (ten .k2 .ptr) (length (lists₀ .k2)) ∷
+      sliceVal (ten .place .ptr) (length (lists₀ .place)) ∷ sliceVal (ten .list .ptr) (length (lists₀ .list)) ∷ sliceVal (ten .way .ptr) (length (lists₀ .way)) ∷ sliceVal (ten .text .ptr)
+      (length (lists₀ .text)) ∷ []
+
+  abbrev Tokens : Item 𝓤
+  Tokens = ‵ (flft (κs .0) (qs .0)) ⊛ (‵ (flft (κs .1 .0) (qs .1 .0)) ⊛ (‵ (flft (κs .1 .1 .0) (qs .1 .1 .0)) ⊛ (‵ (flft (κs .1 .1 .1 .0) (qs .1 .1 .1 .0)) ⊛
+      (‵ (flft (κs .1 .1 .1 .1 .0) (qs .1 .1 .1 .1 .0)) ⊛ (‵ (flft (κs .1 .1 .1 .1 .1 .0) (qs .1 .1 .1 .1 .1 .0)) ⊛ (‵ (flft (κs .1 .1 .1 .1 .1 .1 .0) (qs .1 .1 .1 .1 .1 .1 .0)) ⊛
+      (‵ (flft (κs .1 .1 .1 .1 .1 .1 .1 .0) (qs .1 .1 .1 .1 .1 .1 .1 .0)) ⊛ (‵ (flft (κs .1 .1 .1 .1 .1 .1 .1 .1 .0) (qs .1 .1 .1 .1 .1 .1 .1 .1 .0)) ⊛
+      (‵ (flft (κs .1 .1 .1 .1 .1 .1 .1 .1 .1 .0) (qs .1 .1 .1 .1 .1 .1 .1 .1 .1 .0)) ⊛ (‵ (flft (κs .1 .1 .1 .1 .1 .1 .1 .1 .1 .1 .0) (qs .1 .1 .1 .1 .1 .1 .1 .1 .1 .1 .0)) ⊛ ‵ ftrue))))))))))
+
+  abbrev Owned : Fml
+  Owned = owns (B κs ∷ usize ∷ SS.the-row ∷ MutSlice (named 1) (κs .1 .0) u8 ∷ MutSlice (named 2) (κs .1 .1 .0) u32 ∷ MutSlice (named 3) (κs .1 .1 .1 .0) u32 ∷
+      MutSlice (named 4) (κs .1 .1 .1 .1 .0) u8 ∷ MutSlice (named 5) (κs .1 .1 .1 .1 .1 .0) u32 ∷ MutSlice (named 6) (κs .1 .1 .1 .1 .1 .1 .0) u32 ∷ MutSlice (named 7) (κs .1 .1 .1 .1 .1 .1 .1 .0)
+      u16 ∷ MutSlice (named 8) (κs .1 .1 .1 .1 .1 .1 .1 .1 .0) u16 ∷ MutSlice (named 9) (κs .1 .1 .1 .1 .1 .1 .1 .1 .1 .0) u16 ∷ MutSlice (named 10) (κs .1 .1 .1 .1 .1 .1 .1 .1 .1 .1 .0) u8 ∷ []) a at
 
   abbrev Post : Val → SProp 𝓤
   Post = walkOf 𝓤 H A play.ended stayed (play.clauses 𝓤 H A mem run) .post ((κs, qs, tt, a, at), tt)
@@ -341,8 +322,7 @@ module _ {M : Type 1} (𝓤 : URA M) (H : Heap 𝓤) (A : Atoms 𝓤) (W : Given
           (
             SS′.lowered (x .turned .session) ∷ [],
             (
-              vint w64 (x .left) ∷
-                  [],
+              vint w64 (x .left) ∷ [],
               (vint w64 (x .turned .used) ∷ [], (vint w64 (length (lists₀ .text)) ∷ [], tt)),
             ),
           ),
@@ -381,15 +361,9 @@ module _ {M : Type 1} (𝓤 : URA M) (H : Heap 𝓤) (A : Atoms 𝓤) (W : Given
     -- what is owned at entry: of the reader, what its file owns
     holds-all : ent 𝓤 (onEntry 𝓤 H A play.signature κs qs a at) (sep 𝓤 (mean 𝓤 H A ((‵ (flft κ₀ q₀) ⊛ ‵ ftrue) ⊛ ‵ (Own 𝓤 H A W mem run κ₀ q₀ s))) (mean 𝓤 H A (Tables-at start-state)))
     holds-all =
-        qed W ((‵ (flft (κs .0) (qs .0)) ⊛ (‵ (flft (κs .1 .0) (qs .1 .0)) ⊛ (‵ (flft (κs .1 .1 .0) (qs .1 .1 .0)) ⊛ (‵ (flft (κs .1 .1 .1 .0) (qs .1 .1 .1 .0)) ⊛
-        (‵ (flft (κs .1 .1 .1 .1 .0) (qs .1 .1 .1 .1 .0)) ⊛ (‵ (flft (κs .1 .1 .1 .1 .1 .0) (qs .1 .1 .1 .1 .1 .0)) ⊛ (‵ (flft (κs .1 .1 .1 .1 .1 .1 .0) (qs .1 .1 .1 .1 .1 .1 .0)) ⊛
-        (‵ (flft (κs .1 .1 .1 .1 .1 .1 .1 .0) (qs .1 .1 .1 .1 .1 .1 .1 .0)) ⊛ (‵ (flft (κs .1 .1 .1 .1 .1 .1 .1 .1 .0) (qs .1 .1 .1 .1 .1 .1 .1 .1 .0)) ⊛
-        (‵ (flft (κs .1 .1 .1 .1 .1 .1 .1 .1 .1 .0) (qs .1 .1 .1 .1 .1 .1 .1 .1 .1 .0)) ⊛ (‵ (flft (κs .1 .1 .1 .1 .1 .1 .1 .1 .1 .1 .0) (qs .1 .1 .1 .1 .1 .1 .1 .1 .1 .1 .0)) ⊛ ‵ ftrue))))))))))) ∷
-        ‵ (owns (B κs ∷ usize ∷ SS.the-row ∷ MutSlice (named 1) (κs .1 .0) u8 ∷ MutSlice (named 2) (κs .1 .1 .0) u32 ∷ MutSlice (named 3) (κs .1 .1 .1 .0) u32 ∷ MutSlice (named 4) (κs .1 .1 .1 .1 .0)
-        u8 ∷ MutSlice (named 5) (κs .1 .1 .1 .1 .1 .0) u32 ∷ MutSlice (named 6) (κs .1 .1 .1 .1 .1 .1 .0) u32 ∷ MutSlice (named 7) (κs .1 .1 .1 .1 .1 .1 .1 .0) u16 ∷
-        MutSlice (named 8) (κs .1 .1 .1 .1 .1 .1 .1 .1 .0) u16 ∷ MutSlice (named 9) (κs .1 .1 .1 .1 .1 .1 .1 .1 .1 .0) u16 ∷ MutSlice (named 10) (κs .1 .1 .1 .1 .1 .1 .1 .1 .1 .1 .0) u8 ∷ []) a at) ∷
-        []) ∵ split ! $ nothing ! $ move ! (1 ∷ 0 ∷ []) $ join ! $ move ! (2 ∷ []) $ fsplit ! $ use1 W (‵ (Own 𝓤 H A W mem run κ₀ q₀ s)) (lays-open 𝓤 H A W mem run κ₀ q₀ s start) $
-        move ! (2 ∷ 0 ∷ []) $ join ! $ frame ! $ fsplit ! $ drop ! $ fsplit ! $ drop ! $ move ! (1 ∷ 0 ∷ []) $ done !
+        qed W (Tokens ∷ ‵ Owned ∷ []) ∵ split ! $ nothing ! $ move ! (1 ∷ 0 ∷ []) $ join ! $ move ! (2 ∷ []) $ fsplit ! $
+        use1 W (‵ (Own 𝓤 H A W mem run κ₀ q₀ s)) (lays-open 𝓤 H A W mem run κ₀ q₀ s start) $ move ! (2 ∷ 0 ∷ []) $ join ! $ frame ! $ fsplit ! $ drop ! $ fsplit ! $ drop ! $ move ! (1 ∷ 0 ∷ []) $
+        done !
 
     -- ---- `play_action`, at the action's machine value u and the ten tables lent again
     -- what its last parameter owns
@@ -397,139 +371,26 @@ module _ {M : Type 1} (𝓤 : URA M) (H : Heap 𝓤) (A : Atoms 𝓤) (W : Given
     Used x = fsep (usize .own (x .turned .used) (vint w64 (x .turned .used) ∷ [])) ftrue
 
     module _ (x : X) (u : Val) (N : Names) where
+      abbrev lives : Lfts 10
+      lives = ((N .ν₁ ∷ []), ((N .ν₂ ∷ []), ((N .ν₃ ∷ []), ((N .ν₄ ∷ []), ((N .ν₅ ∷ []), ((N .ν₆ ∷ []), ((N .ν₇ ∷ []), ((N .ν₈ ∷ []), ((N .ν₉ ∷ []), ((N .ν₁₀ ∷ []), tt))))))))))
+
+      abbrev passes : Args play-action.signature lives
+      passes = (actionAt (now s) (x .at), (x .turned .session, lents ten N (x .lists) (x .turned .used, tt)))
+
       abbrev to-action : PlayAction 𝓤 H A mem run .Ghost
       to-action = (
         (
-          ((N .ν₁ ∷ []), ((N .ν₂ ∷ []), ((N .ν₃ ∷ []), ((N .ν₄ ∷ []), ((N .ν₅ ∷ []), ((N .ν₆ ∷ []), ((N .ν₇ ∷ []), ((N .ν₈ ∷ []), ((N .ν₉ ∷ []), ((N .ν₁₀ ∷ []), tt)))))))))),
+          lives,
           (fullShare, (fullShare, (fullShare, (fullShare, (fullShare, (fullShare, (fullShare, (fullShare, (fullShare, (fullShare, tt)))))))))),
           tt,
-          (
-            actionAt (now s) (x .at),
-            (
-              x .turned .session,
-              (
-                record { ptr = ten .plan .ptr; name = N .δ₁; now = x .lists .plan },
-                (
-                  record { ptr = ten .g .ptr; name = N .δ₂; now = x .lists .g },
-                  (
-                    record { ptr = ten .rhs .ptr; name = N .δ₃; now = x .lists .rhs },
-                    (
-                      record { ptr = ten .parent .ptr; name = N .δ₄; now = x .lists .parent },
-                      (
-                        record { ptr = ten .k1 .ptr; name = N .δ₅; now = x .lists .k1 },
-                        (
-                          record { ptr = ten .k2 .ptr; name = N .δ₆; now = x .lists .k2 },
-                          (
-                            record {
-                              ptr = ten .place .ptr;
-                              name = N .δ₇;
-                              now
-                                  = x .lists .place;
-                            },
-                            (
-                              record { ptr = ten .list .ptr; name = N .δ₈; now = x .lists .list },
-                              (
-                                record { ptr = ten .way .ptr; name = N .δ₉; now = x .lists .way },
-                                (record { ptr = ten .text .ptr; name = N .δ₁₀; now = x .lists .text }, (x .turned .used, tt)),
-                              ),
-                            ),
-                          ),
-                        ),
-                      ),
-                    ),
-                  ),
-                ),
-              ),
-            ),
-          ),
-          (
-            u ∷ [],
-            (
-              SS′.lowered (x .turned .session) ∷
-                  [],
-              (
-                sliceVal (ten .plan .ptr) (length (lists₀ .plan)) ∷ [],
-                (
-                  sliceVal (ten .g .ptr) (length (lists₀ .g)) ∷ [],
-                  (
-                    sliceVal (ten .rhs .ptr) (length (lists₀ .rhs)) ∷
-                        [],
-                    (
-                      sliceVal (ten .parent .ptr) (length (lists₀ .parent)) ∷ [],
-                      (
-                        sliceVal (ten .k1 .ptr) (length (lists₀ .k1)) ∷ [],
-                        (
-                          sliceVal (ten .k2 .ptr) (length (lists₀ .k2)) ∷
-                              [],
-                          (
-                            sliceVal (ten .place .ptr) (length (lists₀ .place)) ∷ [],
-                            (
-                              sliceVal (ten .list .ptr) (length (lists₀ .list)) ∷ [],
-                              (
-                                sliceVal (ten .way .ptr) (length (lists₀ .way)) ∷
-                                    [],
-                                (sliceVal (ten .text .ptr) (length (lists₀ .text)) ∷ [], (vint w64 (x .turned .used) ∷ [], tt)),
-                              ),
-                            ),
-                          ),
-                        ),
-                      ),
-                    ),
-                  ),
-                ),
-              ),
-            ),
-          ),
+          passes,
+          (u ∷ [], (SS′.lowered (x .turned .session) ∷ [], slices ten (vint w64 (x .turned .used) ∷ [], tt))),
         ),
         tt,
       )
 
       -- the lists that it leaves
-      abbrev left-lists : Lasts play-action.ended (
-        (N .ν₁ ∷ []),
-        (
-          (N .ν₂ ∷ []),
-          ((N .ν₃ ∷ []), ((N .ν₄ ∷ []), ((N .ν₅ ∷ []), ((N .ν₆ ∷ []), ((N .ν₇ ∷ []), ((N .ν₈ ∷ []), ((N .ν₉ ∷ []), ((N .ν₁₀ ∷ []), tt)))))))),
-        ),
-      ) (
-        actionAt (now s) (x .at),
-        (
-          x .turned .session,
-          (
-            record { ptr = ten .plan .ptr; name = N .δ₁; now = x .lists .plan },
-            (
-              record { ptr = ten .g .ptr; name = N .δ₂; now = x .lists .g },
-              (
-                record { ptr = ten .rhs .ptr; name = N .δ₃; now = x .lists .rhs },
-                (
-                  record { ptr = ten .parent .ptr; name = N .δ₄; now = x .lists .parent },
-                  (
-                    record { ptr = ten .k1 .ptr; name = N .δ₅; now = x .lists .k1 },
-                    (
-                      record { ptr = ten .k2 .ptr; name = N .δ₆; now = x .lists .k2 },
-                      (
-                        record {
-                          ptr = ten .place .ptr;
-                          name = N .δ₇;
-                          now
-                              = x .lists .place;
-                        },
-                        (
-                          record { ptr = ten .list .ptr; name = N .δ₈; now = x .lists .list },
-                          (
-                            record { ptr = ten .way .ptr; name = N .δ₉; now = x .lists .way },
-                            (record { ptr = ten .text .ptr; name = N .δ₁₀; now = x .lists .text }, (x .turned .used, tt)),
-                          ),
-                        ),
-                      ),
-                    ),
-                  ),
-                ),
-              ),
-            ),
-          ),
-        ),
-      ) → Lists
+      abbrev left-lists : Lasts play-action.ended lives passes → Lists
       left-lists ws = record {
         plan = ws .1 .1 .0;
         g = ws .1 .1 .1 .0;
@@ -537,8 +398,7 @@ module _ {M : Type 1} (𝓤 : URA M) (H : Heap 𝓤) (A : Atoms 𝓤) (W : Given
         parent = ws .1 .1 .1 .1 .1 .0;
         k1 = ws .1 .1 .1 .1 .1 .1 .0;
         k2 = ws .1 .1 .1 .1 .1 .1 .1 .0;
-        place
-            = ws .1 .1 .1 .1 .1 .1 .1 .1 .0;
+        place = ws .1 .1 .1 .1 .1 .1 .1 .1 .0;
         list = ws .1 .1 .1 .1 .1 .1 .1 .1 .1 .0;
         way = ws .1 .1 .1 .1 .1 .1 .1 .1 .1 .1 .0;
         text = ws .1 .1 .1 .1 .1 .1 .1 .1 .1 .1 .1 .0;
@@ -563,155 +423,11 @@ module _ {M : Type 1} (𝓤 : URA M) (H : Heap 𝓤) (A : Atoms 𝓤) (W : Given
         (H .⇛ (ex 𝓤 (λ (y : Got (actionAt (now s) (x .at)) (x .turned .session) (x .turned .used) (x .lists) r). mean 𝓤 H A (Held (κs .1) (qs .1) ten 𝓤 (y .lists)))))
     regains-all x u N r =
         qed W (raw (PlayAction 𝓤 H A mem run .post (to-action x u N) r) ∷ ‵ (Kept-of x N) ∷ []) ∵ updating ! $
-        use1 W (later (some (λ (t : Turned). (Alive (κs .1) (qs .1) ten 𝓤 N ⊛ ‵ (TR.the-row .own t (r ∷ []))) ⊛ raw (ensured 𝓤 H A play-action.ended (play-action.clauses 𝓤 H A mem run)
-        ((N .ν₁ ∷ []), ((N .ν₂ ∷ []), ((N .ν₃ ∷ []), ((N .ν₄ ∷ []), ((N .ν₅ ∷ []), ((N .ν₆ ∷ []), ((N .ν₇ ∷ []), ((N .ν₈ ∷ []), ((N .ν₉ ∷ []), ((N .ν₁₀ ∷ []), tt)))))))))) (
-          actionAt (now s) (x .at),
-          (
-            x .turned .session,
-            (
-              record { ptr = ten .plan .ptr; name = N .δ₁; now = x .lists .plan },
-              (
-                record { ptr = ten .g .ptr; name = N .δ₂; now = x .lists .g },
-                (
-                  record { ptr = ten .rhs .ptr; name = N .δ₃; now = x .lists .rhs },
-                  (
-                    record { ptr = ten .parent .ptr; name = N .δ₄; now = x .lists .parent },
-                    (
-                      record {
-                        ptr = ten .k1 .ptr;
-                        name = N .δ₅;
-                        now
-                            = x .lists .k1;
-                      },
-                      (
-                        record { ptr = ten .k2 .ptr; name = N .δ₆; now = x .lists .k2 },
-                        (
-                          record { ptr = ten .place .ptr; name = N .δ₇; now = x .lists .place },
-                          (
-                            record { ptr = ten .list .ptr; name = N .δ₈; now = x .lists .list },
-                            (
-                              record { ptr = ten .way .ptr; name = N .δ₉; now = x .lists .way },
-                              (
-                                record {
-                                  ptr = ten .text .ptr;
-                                  name = N .δ₁₀;
-                                  now
-                                      = x .lists .text;
-                                },
-                                (x .turned .used, tt),
-                              ),
-                            ),
-                          ),
-                        ),
-                      ),
-                    ),
-                  ),
-                ),
-              ),
-            ),
-          ),
-        ) tt t)))) (id⊢ 𝓤 _) $ await ! tt $ pick ! (λ t. split ! $ move ! (1 ∷ []) $
-        use1 W (some (λ (ws : Lasts play-action.ended (
-          (N .ν₁ ∷ []),
-          (
-            (N .ν₂ ∷ []),
-            ((N .ν₃ ∷ []), ((N .ν₄ ∷ []), ((N .ν₅ ∷ []), ((N .ν₆ ∷ []), ((N .ν₇ ∷ []), ((N .ν₈ ∷ []), ((N .ν₉ ∷ []), ((N .ν₁₀ ∷ []), tt)))))))),
-          ),
-        ) (
-          actionAt (now s) (x .at),
-          (
-            x .turned .session,
-            (
-              record { ptr = ten .plan .ptr; name = N .δ₁; now = x .lists .plan },
-              (
-                record { ptr = ten .g .ptr; name = N .δ₂; now = x .lists .g },
-                (
-                  record { ptr = ten .rhs .ptr; name = N .δ₃; now = x .lists .rhs },
-                  (
-                    record { ptr = ten .parent .ptr; name = N .δ₄; now = x .lists .parent },
-                    (
-                      record {
-                        ptr = ten .k1 .ptr;
-                        name = N .δ₅;
-                        now
-                            = x .lists .k1;
-                      },
-                      (
-                        record { ptr = ten .k2 .ptr; name = N .δ₆; now = x .lists .k2 },
-                        (
-                          record { ptr = ten .place .ptr; name = N .δ₇; now = x .lists .place },
-                          (
-                            record { ptr = ten .list .ptr; name = N .δ₈; now = x .lists .list },
-                            (
-                              record { ptr = ten .way .ptr; name = N .δ₉; now = x .lists .way },
-                              (
-                                record {
-                                  ptr = ten .text .ptr;
-                                  name = N .δ₁₀;
-                                  now
-                                      = x .lists .text;
-                                },
-                                (x .turned .used, tt),
-                              ),
-                            ),
-                          ),
-                        ),
-                      ),
-                    ),
-                  ),
-                ),
-              ),
-            ),
-          ),
-        )). ‵ (lasts play-action.ended
-        ((N .ν₁ ∷ []), ((N .ν₂ ∷ []), ((N .ν₃ ∷ []), ((N .ν₄ ∷ []), ((N .ν₅ ∷ []), ((N .ν₆ ∷ []), ((N .ν₇ ∷ []), ((N .ν₈ ∷ []), ((N .ν₉ ∷ []), ((N .ν₁₀ ∷ []), tt)))))))))) (
-          actionAt (now s) (x .at),
-          (
-            x .turned .session,
-            (
-              record { ptr = ten .plan .ptr; name = N .δ₁; now = x .lists .plan },
-              (
-                record { ptr = ten .g .ptr; name = N .δ₂; now = x .lists .g },
-                (
-                  record { ptr = ten .rhs .ptr; name = N .δ₃; now = x .lists .rhs },
-                  (
-                    record { ptr = ten .parent .ptr; name = N .δ₄; now = x .lists .parent },
-                    (
-                      record {
-                        ptr = ten .k1 .ptr;
-                        name = N .δ₅;
-                        now
-                            = x .lists .k1;
-                      },
-                      (
-                        record { ptr = ten .k2 .ptr; name = N .δ₆; now = x .lists .k2 },
-                        (
-                          record { ptr = ten .place .ptr; name = N .δ₇; now = x .lists .place },
-                          (
-                            record { ptr = ten .list .ptr; name = N .δ₈; now = x .lists .list },
-                            (
-                              record { ptr = ten .way .ptr; name = N .δ₉; now = x .lists .way },
-                              (
-                                record {
-                                  ptr = ten .text .ptr;
-                                  name = N .δ₁₀;
-                                  now
-                                      = x .lists .text;
-                                },
-                                (x .turned .used, tt),
-                              ),
-                            ),
-                          ),
-                        ),
-                      ),
-                    ),
-                  ),
-                ),
-              ),
-            ),
-          ),
-        ) ws) ⊛ raw (fact 𝓤 (Turns (actionAt (now s) (x .at)) (x .turned .session) (tablesIn (x .lists)) ((x .lists) .way) ((x .lists) .text)
-        (x .turned .used) t (tablesIn (left-lists x u N ws)) ((left-lists x u N ws) .way) ((left-lists x u N ws) .text))))) (id⊢ 𝓤 _) $ pick ! (λ ws. split ! $ move ! (1 ∷ []) $
+        use1 W (later (some (λ (t : Turned). (Alive (κs .1) (qs .1) ten 𝓤 N ⊛ ‵ (TR.the-row .own t (r ∷ []))) ⊛ raw (ensured 𝓤 H A play-action.ended (play-action.clauses 𝓤 H A mem run) (lives x u N)
+        (passes x u N) tt t)))) (id⊢ 𝓤 _) $ await ! tt $ pick ! (λ t. split ! $ move ! (1 ∷ []) $
+        use1 W (some (λ (ws : Lasts play-action.ended (lives x u N) (passes x u N)). ‵ (lasts play-action.ended (lives x u N) (passes x u N) ws) ⊛
+        raw (fact 𝓤 (Turns (actionAt (now s) (x .at)) (x .turned .session) (tablesIn (x .lists)) ((x .lists) .way) ((x .lists) .text) (x .turned .used) t (tablesIn (left-lists x u N ws))
+        ((left-lists x u N ws) .way) ((left-lists x u N ws) .text))))) (id⊢ 𝓤 _) $ pick ! (λ ws. split ! $ move ! (1 ∷ []) $
         heard ! (Turns (actionAt (now s) (x .at)) (x .turned .session) (tablesIn (x .lists)) ((x .lists) .way) ((x .lists) .text) (x .turned .used) t (tablesIn (left-lists x u N ws))
         ((left-lists x u N ws) .way) ((left-lists x u N ws) .text)) (λ turns. fsplit ! $ drop ! $ fsplit ! $ drop ! $ move ! (1 ∷ []) $ split ! $ move ! (1 ∷ []) $
         peeks ! TR.the-row (Is TR.the-row) (shows 𝓤 H A TR.the-row) t (r ∷ []) (λ is. drop ! $
@@ -723,30 +439,8 @@ module _ {M : Type 1} (𝓤 : URA M) (H : Heap 𝓤) (A : Atoms 𝓤) (W : Given
     exits : (x : X) → (Goes x → ⊥) → ent 𝓤 (⋆ 𝓤 H A ((‵ (flft κ₀ q₀) ⊛ ‵ ftrue) ∷ ‵ (Own 𝓤 H A W mem run κ₀ q₀ s) ∷ Tables-at x ∷ [])) (Post (PL′.lowered (result x)))
     exits x none =
         qed W ((‵ (flft κ₀ q₀) ⊛ ‵ ftrue) ∷ ‵ (Own 𝓤 H A W mem run κ₀ q₀ s) ∷ Tables-at x ∷ []) ∵
-        suffices ! _ (ends-at 𝓤 H A play.ended stayed (play.clauses 𝓤 H A mem run) W ((κs, qs, tt, a, at), tt) (PL′.lowered (result x)) (result x) (
-          tt,
-          (
-            tt,
-            (
-              tt,
-              (
-                x .lists .plan,
-                (
-                  x .lists .g,
-                  (
-                    x .lists .rhs,
-                    (
-                      x .lists .parent,
-                      (x .lists .k1, (x .lists .k2, (x .lists .place, (x .lists .list, (x .lists .way, (x .lists .text, tt)))))),
-                    ),
-                  ),
-                ),
-              ),
-            ),
-          ),
-        )
-        (tt, (tt, (tt, (x .long .plan, (x .long .g, (x .long .rhs, (x .long .parent, (x .long .k1, (x .long .k2, (x .long .place, (x .long .list, (x .long .way, (x .long .text, tt)))))))))))))) $
-        says ! (plays x none) $ move ! (2 ∷ []) $ split ! $ move ! (2 ∷ []) $ split ! $ move ! (1 ∷ []) $ drop ! $ join ! $ frame ! $
+        suffices ! _ (ends-at 𝓤 H A play.ended stayed (play.clauses 𝓤 H A mem run) W ((κs, qs, tt, a, at), tt) (PL′.lowered (result x)) (result x) (tt, (tt, (tt, lasts-of (x .lists) tt)))
+        (tt, (tt, (tt, longs (x .long))))) $ says ! (plays x none) $ move ! (2 ∷ []) $ split ! $ move ! (2 ∷ []) $ split ! $ move ! (1 ∷ []) $ drop ! $ join ! $ frame ! $
         owned ! SS.the-row (Is SS.the-row) (LL.makes SS.the-type SS′.the-plain 𝓤 H A) st _ st-is $ fjoin ! $ owned ! usize (Is usize) (uint-makes 𝓤 H A W w64) actions _ (refl, actions-fits) $
         fjoin ! $ move ! (1 ∷ []) $
         use1 W (‵ (Reads 𝓤 H A W mem run κ₀ q₀ s .own (made s start) (mach s start ∷ [])) ⊛ ‵ (Own 𝓤 H A W mem run κ₀ q₀ s)) (holds 𝓤 H A W mem run κ₀ q₀ s start start-fits) $ split ! $
@@ -829,10 +523,9 @@ module _ {M : Type 1} (𝓤 : URA M) (H : Heap 𝓤) (A : Atoms 𝓤) (W : Given
         Q x = anyQ (afterTurn 𝓤 H (Below 𝓤 H A Less Inv x) Left)
 
         -- the turn after its test: an action is played, and the reader moves past it
-        plays-one : (x : X) (b : Bool) → Goes x → ent 𝓤 (⋆ 𝓤 H A (Mid x b)) (Wp 𝓤 H C Λ Env-of (rest (rest (rest turn-1))) (post 𝓤 H (Q x)))
+        plays-one : (x : X) (b : Bool) → Goes x → Sq W (Mid x b) (runs C Λ Env-of (rest (rest (rest turn-1))) (Q x))
         unfolding afterTurn
         plays-one x b h =
-            qed W (Mid x b) ∵ exec ! C Λ Env-of (rest (rest (rest turn-1))) (Q x) $
             assigns ! (of-opd ! (load ! (from ! (stop !)) (look ! 32 refl))) (from ! (stop !)) (init ! 26 refl (typed 𝓤 H A W mem run κ₀ q₀ s p (x .at) (in-file x))) $
             -- `next`
             use2 W (raw (Next 𝓤 H A mem run .pre (to-next 𝓤 H A W mem run κ₀ q₀ s (x .at))) ⊛ ‵ (Own 𝓤 H A W mem run κ₀ q₀ s)) (goes-next 𝓤 H A W mem run κ₀ q₀ s (x .at) (in-file x)) $ split ! $
@@ -928,7 +621,7 @@ module _ {M : Type 1} (𝓤 : URA M) (H : Heap 𝓤) (A : Atoms 𝓤) (W : Given
             (and-then ! (load ! (from ! (stop !)) (look ! 31 refl)) (and-then ! (load ! (from ! (fld ! refl (stop !))) (look-in ! 32 (sub ! 1 refl (whole !))))
             (and-then ! (load ! (from ! (stop !)) (look ! 29 refl)) (no-more !))))) (λ u. use1 W (later (some (λ (b : Bool). given ((u ≡ vbool b) × Decides b (Goes x)) (‵ ftrue)))) (gives-goes x u) $
             await ! tt $ pick ! (λ b. learn ! (λ h. drop ! $ land ! (from ! (stop !)) (init ! 29 refl (subst (λ (z : Val). Holds (hasTy tyBool z) × WT z) (sym (h .0)) (tt, tt))) $
-            rewrite ! 29 (λ (z : Val). ‵ (fat fullShare tyBool l₁₇ 0 z)) (h .0) refl $ whiles ! b (load ! (from ! (stop !)) (look ! 29 refl)) (λ held. by ! (plays-one x b (h .1 .so (is-true b held))))
+            rewrite ! 29 (λ (z : Val). ‵ (fat fullShare tyBool l₁₇ 0 z)) (h .0) refl $ whiles ! b (load ! (from ! (stop !)) (look ! 29 refl)) (λ held. plays-one x b (h .1 .so (is-true b held)))
             (λ failed. by ! (leaves x b (λ g. refuted (h .1) (is-false b failed) g))))))
 
         goes-round : ent 𝓤 (⋆ 𝓤 H A (Inv start-state)) (Wp 𝓤 H C Λ Env-of t-4 (atReturn 𝓤 H Env-of Post))
@@ -936,21 +629,13 @@ module _ {M : Type 1} (𝓤 : URA M) (H : Heap 𝓤) (A : Atoms 𝓤) (W : Given
 
         -- the context once the arguments are stored, and the code up to the loop
         abbrev Begin : List (Item 𝓤)
-        Begin = (‵ (flft (κs .0) (qs .0)) ⊛ (‵ (flft (κs .1 .0) (qs .1 .0)) ⊛ (‵ (flft (κs .1 .1 .0) (qs .1 .1 .0)) ⊛ (‵ (flft (κs .1 .1 .1 .0) (qs .1 .1 .1 .0)) ⊛
-            (‵ (flft (κs .1 .1 .1 .1 .0) (qs .1 .1 .1 .1 .0)) ⊛ (‵ (flft (κs .1 .1 .1 .1 .1 .0) (qs .1 .1 .1 .1 .1 .0)) ⊛ (‵ (flft (κs .1 .1 .1 .1 .1 .1 .0) (qs .1 .1 .1 .1 .1 .1 .0)) ⊛
-            (‵ (flft (κs .1 .1 .1 .1 .1 .1 .1 .0) (qs .1 .1 .1 .1 .1 .1 .1 .0)) ⊛ (‵ (flft (κs .1 .1 .1 .1 .1 .1 .1 .1 .0) (qs .1 .1 .1 .1 .1 .1 .1 .1 .0)) ⊛
-            (‵ (flft (κs .1 .1 .1 .1 .1 .1 .1 .1 .1 .0) (qs .1 .1 .1 .1 .1 .1 .1 .1 .1 .0)) ⊛ (‵ (flft (κs .1 .1 .1 .1 .1 .1 .1 .1 .1 .1 .0) (qs .1 .1 .1 .1 .1 .1 .1 .1 .1 .1 .0)) ⊛
-            ‵ ftrue))))))))))) ∷ ‵ (owns (B κs ∷ usize ∷ SS.the-row ∷ MutSlice (named 1) (κs .1 .0) u8 ∷ MutSlice (named 2) (κs .1 .1 .0) u32 ∷ MutSlice (named 3) (κs .1 .1 .1 .0) u32 ∷
-            MutSlice (named 4) (κs .1 .1 .1 .1 .0) u8 ∷ MutSlice (named 5) (κs .1 .1 .1 .1 .1 .0) u32 ∷ MutSlice (named 6) (κs .1 .1 .1 .1 .1 .1 .0) u32 ∷
-            MutSlice (named 7) (κs .1 .1 .1 .1 .1 .1 .1 .0) u16 ∷ MutSlice (named 8) (κs .1 .1 .1 .1 .1 .1 .1 .1 .0) u16 ∷ MutSlice (named 9) (κs .1 .1 .1 .1 .1 .1 .1 .1 .1 .0) u16 ∷
-            MutSlice (named 10) (κs .1 .1 .1 .1 .1 .1 .1 .1 .1 .1 .0) u8 ∷ []) a at) ∷ Deaths ∷ ‵ (froom word l₄₂ 0) ∷ ‵ (froom reader l₄₁ 0) ∷ ‵ (froom (lent erased w8) l₄₀ 0) ∷
-            ‵ (froom (tyRef erased mut (tyInt w8)) l₃₉ 0) ∷ ‵ (froom (lent erased w16) l₃₈ 0) ∷ ‵ (froom (tyRef erased mut (tyInt w16)) l₃₇ 0) ∷ ‵ (froom (lent erased w16) l₃₆ 0) ∷
-            ‵ (froom (tyRef erased mut (tyInt w16)) l₃₅ 0) ∷ ‵ (froom (lent erased w16) l₃₄ 0) ∷ ‵ (froom (tyRef erased mut (tyInt w16)) l₃₃ 0) ∷ ‵ (froom (lent erased w32) l₃₂ 0) ∷
-            ‵ (froom (tyRef erased mut (tyInt w32)) l₃₁ 0) ∷ ‵ (froom (lent erased w32) l₃₀ 0) ∷ ‵ (froom (tyRef erased mut (tyInt w32)) l₂₉ 0) ∷ ‵ (froom (lent erased w8) l₂₈ 0) ∷
-            ‵ (froom (tyRef erased mut (tyInt w8)) l₂₇ 0) ∷ ‵ (froom (lent erased w32) l₂₆ 0) ∷ ‵ (froom (tyRef erased mut (tyInt w32)) l₂₅ 0) ∷ ‵ (froom (lent erased w32) l₂₄ 0) ∷
-            ‵ (froom (tyRef erased mut (tyInt w32)) l₂₃ 0) ∷ ‵ (froom (lent erased w8) l₂₂ 0) ∷ ‵ (froom (tyRef erased mut (tyInt w8)) l₂₁ 0) ∷ ‵ (froom reader l₂₀ 0) ∷ ‵ (froom AC′.mir l₁₉ 0) ∷
-            ‵ (froom word l₁₈ 0) ∷ ‵ (froom tyBool l₁₇ 0) ∷ ‵ (froom word l₁₆ 0) ∷ ‵ (froom TR′.mir l₁₅ 0) ∷ ‵ (froom reader l₁₄ 0) ∷
-            ‵ (fat fullShare (lent (named 10) w8) l₁₃ 0 (sliceVal (ten .text .ptr) (length (lists₀ .text)))) ∷
+        Begin = Tokens ∷ ‵ Owned ∷ Deaths ∷ ‵ (froom word l₄₂ 0) ∷ ‵ (froom reader l₄₁ 0) ∷ ‵ (froom (lent erased w8) l₄₀ 0) ∷ ‵ (froom (tyRef erased mut (tyInt w8)) l₃₉ 0) ∷
+            ‵ (froom (lent erased w16) l₃₈ 0) ∷ ‵ (froom (tyRef erased mut (tyInt w16)) l₃₇ 0) ∷ ‵ (froom (lent erased w16) l₃₆ 0) ∷ ‵ (froom (tyRef erased mut (tyInt w16)) l₃₅ 0) ∷
+            ‵ (froom (lent erased w16) l₃₄ 0) ∷ ‵ (froom (tyRef erased mut (tyInt w16)) l₃₃ 0) ∷ ‵ (froom (lent erased w32) l₃₂ 0) ∷ ‵ (froom (tyRef erased mut (tyInt w32)) l₃₁ 0) ∷
+            ‵ (froom (lent erased w32) l₃₀ 0) ∷ ‵ (froom (tyRef erased mut (tyInt w32)) l₂₉ 0) ∷ ‵ (froom (lent erased w8) l₂₈ 0) ∷ ‵ (froom (tyRef erased mut (tyInt w8)) l₂₇ 0) ∷
+            ‵ (froom (lent erased w32) l₂₆ 0) ∷ ‵ (froom (tyRef erased mut (tyInt w32)) l₂₅ 0) ∷ ‵ (froom (lent erased w32) l₂₄ 0) ∷ ‵ (froom (tyRef erased mut (tyInt w32)) l₂₃ 0) ∷
+            ‵ (froom (lent erased w8) l₂₂ 0) ∷ ‵ (froom (tyRef erased mut (tyInt w8)) l₂₁ 0) ∷ ‵ (froom reader l₂₀ 0) ∷ ‵ (froom AC′.mir l₁₉ 0) ∷ ‵ (froom word l₁₈ 0) ∷ ‵ (froom tyBool l₁₇ 0) ∷
+            ‵ (froom word l₁₆ 0) ∷ ‵ (froom TR′.mir l₁₅ 0) ∷ ‵ (froom reader l₁₄ 0) ∷ ‵ (fat fullShare (lent (named 10) w8) l₁₃ 0 (sliceVal (ten .text .ptr) (length (lists₀ .text)))) ∷
             ‵ (fat fullShare (lent (named 9) w16) l₁₂ 0 (sliceVal (ten .way .ptr) (length (lists₀ .way)))) ∷
             ‵ (fat fullShare (lent (named 8) w16) l₁₁ 0 (sliceVal (ten .list .ptr) (length (lists₀ .list)))) ∷ ‵ (fat fullShare (lent (named 7) w16) l₁₀ 0 (sliceVal (ten .place .ptr)
             (length (lists₀ .place)))) ∷ ‵ (fat fullShare (lent (named 6) w32) l₉ 0 (sliceVal (ten .k2 .ptr) (length (lists₀ .k2)))) ∷
@@ -960,9 +645,9 @@ module _ {M : Type 1} (𝓤 : URA M) (H : Heap 𝓤) (A : Atoms 𝓤) (W : Given
             ‵ (fat fullShare (lent (named 1) w8) l₄ 0 (sliceVal (ten .plan .ptr) (length (lists₀ .plan)))) ∷ ‵ (fat fullShare SS′.mir l₃ 0 (SS′.lowered st)) ∷
             ‵ (fat fullShare word l₂ 0 (vint w64 actions)) ∷ ‵ (fat fullShare (RD′.mir (named 0)) l₁ 0 (mach s start)) ∷ ‵ (froom PL′.mir l₀ 0) ∷ []
 
-        begins : ent 𝓤 (⋆ 𝓤 H A Begin) (Wp 𝓤 H C Λ Env-of t-1 (atReturn 𝓤 H Env-of Post))
+        begins : Sq W Begin (runs C Λ Env-of t-1 (atRet Env-of Post))
         begins =
-            qed W Begin ∵ exec ! C Λ Env-of t-1 (atRet Env-of Post) $ use2 W (((‵ (flft κ₀ q₀) ⊛ ‵ ftrue) ⊛ ‵ (Own 𝓤 H A W mem run κ₀ q₀ s)) ⊛ Tables-at start-state) holds-all $ split ! $ split ! $
+            use2 W (((‵ (flft κ₀ q₀) ⊛ ‵ ftrue) ⊛ ‵ (Own 𝓤 H A W mem run κ₀ q₀ s)) ⊛ Tables-at start-state) holds-all $ split ! $ split ! $
             assigns ! (of-opd ! (load ! (from ! (stop !)) (look ! 45 refl))) (from ! (stop !)) (init ! 32 refl (typed 𝓤 H A W mem run κ₀ q₀ s p start start-fits)) $
             assigns ! (agg ! (and-then ! (load ! (from ! (stop !)) (look ! 43 refl)) (and-then ! (lit ! tt) (no-more !)))) (from ! (stop !)) (init ! 31 refl (turned-typed first-turned first-is)) $
             assigns ! (of-opd ! (load ! (from ! (stop !)) (look ! 44 refl))) (from ! (stop !)) (init ! 30 refl (tt, record { fits = actions-fits })) $ by ! goes-round
@@ -986,84 +671,26 @@ module _ {M : Type 1} (𝓤 : URA M) (H : Heap 𝓤) (A : Atoms 𝓤) (W : Given
             ‵ (fdies (lent (named 7) w16) l₁₀) ∷ ‵ (froom (lent (named 6) w32) l₉ 0) ∷ ‵ (fdies (lent (named 6) w32) l₉) ∷ ‵ (froom (lent (named 5) w32) l₈ 0) ∷ ‵ (fdies (lent (named 5) w32) l₈) ∷
             ‵ (froom (lent (named 4) w8) l₇ 0) ∷ ‵ (fdies (lent (named 4) w8) l₇) ∷ ‵ (froom (lent (named 3) w32) l₆ 0) ∷ ‵ (fdies (lent (named 3) w32) l₆) ∷ ‵ (froom (lent (named 2) w32) l₅ 0) ∷
             ‵ (fdies (lent (named 2) w32) l₅) ∷ ‵ (froom (lent (named 1) w8) l₄ 0) ∷ ‵ (fdies (lent (named 1) w8) l₄) ∷ ‵ (froom SS′.mir l₃ 0) ∷ ‵ (fdies SS′.mir l₃) ∷ ‵ (froom word l₂ 0) ∷
-            ‵ (fdies word l₂) ∷ ‵ (froom (RD′.mir (named 0)) l₁ 0) ∷ ‵ (fdies (RD′.mir (named 0)) l₁) ∷ ‵ (froom PL′.mir l₀ 0) ∷ ‵ (fdies PL′.mir l₀) ∷ (‵ (flft (κs .0) (qs .0)) ⊛
-            (‵ (flft (κs .1 .0) (qs .1 .0)) ⊛ (‵ (flft (κs .1 .1 .0) (qs .1 .1 .0)) ⊛ (‵ (flft (κs .1 .1 .1 .0) (qs .1 .1 .1 .0)) ⊛ (‵ (flft (κs .1 .1 .1 .1 .0) (qs .1 .1 .1 .1 .0)) ⊛
-            (‵ (flft (κs .1 .1 .1 .1 .1 .0) (qs .1 .1 .1 .1 .1 .0)) ⊛ (‵ (flft (κs .1 .1 .1 .1 .1 .1 .0) (qs .1 .1 .1 .1 .1 .1 .0)) ⊛
-            (‵ (flft (κs .1 .1 .1 .1 .1 .1 .1 .0) (qs .1 .1 .1 .1 .1 .1 .1 .0)) ⊛ (‵ (flft (κs .1 .1 .1 .1 .1 .1 .1 .1 .0) (qs .1 .1 .1 .1 .1 .1 .1 .1 .0)) ⊛
-            (‵ (flft (κs .1 .1 .1 .1 .1 .1 .1 .1 .1 .0) (qs .1 .1 .1 .1 .1 .1 .1 .1 .1 .0)) ⊛ (‵ (flft (κs .1 .1 .1 .1 .1 .1 .1 .1 .1 .1 .0) (qs .1 .1 .1 .1 .1 .1 .1 .1 .1 .1 .0)) ⊛
-            ‵ ftrue))))))))))) ∷ ‵ (owns (B κs ∷ usize ∷ SS.the-row ∷ MutSlice (named 1) (κs .1 .0) u8 ∷ MutSlice (named 2) (κs .1 .1 .0) u32 ∷ MutSlice (named 3) (κs .1 .1 .1 .0) u32 ∷
-            MutSlice (named 4) (κs .1 .1 .1 .1 .0) u8 ∷ MutSlice (named 5) (κs .1 .1 .1 .1 .1 .0) u32 ∷ MutSlice (named 6) (κs .1 .1 .1 .1 .1 .1 .0) u32 ∷
-            MutSlice (named 7) (κs .1 .1 .1 .1 .1 .1 .1 .0) u16 ∷ MutSlice (named 8) (κs .1 .1 .1 .1 .1 .1 .1 .1 .0) u16 ∷ MutSlice (named 9) (κs .1 .1 .1 .1 .1 .1 .1 .1 .1 .0) u16 ∷
-            MutSlice (named 10) (κs .1 .1 .1 .1 .1 .1 .1 .1 .1 .1 .0) u8 ∷ []) a at) ∷ []
+            ‵ (fdies word l₂) ∷ ‵ (froom (RD′.mir (named 0)) l₁ 0) ∷ ‵ (fdies (RD′.mir (named 0)) l₁) ∷ ‵ (froom PL′.mir l₀ 0) ∷ ‵ (fdies PL′.mir l₀) ∷ Tokens ∷ ‵ Owned ∷ []
 
-        stored : ent 𝓤 (⋆ 𝓤 H A Rooms-for) (params 𝓤 H Env-of (mach s start ∷ vint w64 actions ∷ SS′.lowered st ∷ sliceVal (ten .plan .ptr) (length (lists₀ .plan)) ∷
-            sliceVal (ten .g .ptr) (length (lists₀ .g)) ∷ sliceVal (ten .rhs .ptr) (length (lists₀ .rhs)) ∷ sliceVal (ten .parent .ptr) (length (lists₀ .parent)) ∷ sliceVal (ten .k1 .ptr)
-            (length (lists₀ .k1)) ∷ sliceVal (ten .k2 .ptr) (length (lists₀ .k2)) ∷ sliceVal (ten .place .ptr) (length (lists₀ .place)) ∷ sliceVal (ten .list .ptr) (length (lists₀ .list)) ∷
-            sliceVal (ten .way .ptr) (length (lists₀ .way)) ∷ sliceVal (ten .text .ptr) (length (lists₀ .text)) ∷ []) (Wp 𝓤 H C Λ Env-of t-1 (atReturn 𝓤 H Env-of Post)))
+        stored : Sq W Rooms-for (params′ Env-of values (runs C Λ Env-of t-1 (atRet Env-of Post)))
         stored =
-            qed W Rooms-for ∵ storing ! Env-of (mach s start ∷ vint w64 actions ∷ SS′.lowered st ∷ sliceVal (ten .plan .ptr) (length (lists₀ .plan)) ∷ sliceVal (ten .g .ptr) (length (lists₀ .g)) ∷
-            sliceVal (ten .rhs .ptr) (length (lists₀ .rhs)) ∷ sliceVal (ten .parent .ptr) (length (lists₀ .parent)) ∷ sliceVal (ten .k1 .ptr) (length (lists₀ .k1)) ∷ sliceVal (ten .k2 .ptr)
-            (length (lists₀ .k2)) ∷ sliceVal (ten .place .ptr) (length (lists₀ .place)) ∷ sliceVal (ten .list .ptr) (length (lists₀ .list)) ∷ sliceVal (ten .way .ptr) (length (lists₀ .way)) ∷
-            sliceVal (ten .text .ptr) (length (lists₀ .text)) ∷ []) (runs C Λ Env-of t-1 (atRet Env-of Post)) $ params1 ! $ pass1 ! (init ! 82 refl (typed 𝓤 H A W mem run κ₀ q₀ s p start start-fits)) $
-            pass1 ! (init ! 80 refl (tt, record { fits = actions-fits })) $ pass1 ! (init ! 78 refl (LL.lawful SS.the-type SS′.the-laws 𝓤 H A W .typed st _ st-is .0)) $
-            pass1 ! (init ! 76 refl (tt, (tt, (record { fits = rooms .plan .0 }, tt)))) $ pass1 ! (init ! 74 refl (tt, (tt, (record { fits = rooms .g .0 }, tt)))) $
-            pass1 ! (init ! 72 refl (tt, (tt, (record { fits = rooms .rhs .0 }, tt)))) $ pass1 ! (init ! 70 refl (tt, (tt, (record { fits = rooms .parent .0 }, tt)))) $
-            pass1 ! (init ! 68 refl (tt, (tt, (record { fits = rooms .k1 .0 }, tt)))) $ pass1 ! (init ! 66 refl (tt, (tt, (record { fits = rooms .k2 .0 }, tt)))) $
-            pass1 ! (init ! 64 refl (tt, (tt, (record { fits = rooms .place .0 }, tt)))) $ pass1 ! (init ! 62 refl (tt, (tt, (record { fits = rooms .list .0 }, tt)))) $
-            pass1 ! (init ! 60 refl (tt, (tt, (record { fits = rooms .way .0 }, tt)))) $ pass1 ! (init ! 58 refl (tt, (tt, (record { fits = rooms .text .0 }, tt)))) $ pass0 ! $
+            params1 ! $ pass1 ! (init ! 82 refl (typed 𝓤 H A W mem run κ₀ q₀ s p start start-fits)) $ pass1 ! (init ! 80 refl (tt, record { fits = actions-fits })) $
+            pass1 ! (init ! 78 refl (LL.lawful SS.the-type SS′.the-laws 𝓤 H A W .typed st _ st-is .0)) $ pass1 ! (init ! 76 refl (tt, (tt, (record { fits = rooms .plan .0 }, tt)))) $
+            pass1 ! (init ! 74 refl (tt, (tt, (record { fits = rooms .g .0 }, tt)))) $ pass1 ! (init ! 72 refl (tt, (tt, (record { fits = rooms .rhs .0 }, tt)))) $
+            pass1 ! (init ! 70 refl (tt, (tt, (record { fits = rooms .parent .0 }, tt)))) $ pass1 ! (init ! 68 refl (tt, (tt, (record { fits = rooms .k1 .0 }, tt)))) $
+            pass1 ! (init ! 66 refl (tt, (tt, (record { fits = rooms .k2 .0 }, tt)))) $ pass1 ! (init ! 64 refl (tt, (tt, (record { fits = rooms .place .0 }, tt)))) $
+            pass1 ! (init ! 62 refl (tt, (tt, (record { fits = rooms .list .0 }, tt)))) $ pass1 ! (init ! 60 refl (tt, (tt, (record { fits = rooms .way .0 }, tt)))) $
+            pass1 ! (init ! 58 refl (tt, (tt, (record { fits = rooms .text .0 }, tt)))) $ pass0 ! $
             move ! (85 ∷ 83 ∷ 81 ∷ 79 ∷ 77 ∷ 75 ∷ 73 ∷ 71 ∷ 69 ∷ 67 ∷ 65 ∷ 63 ∷ 61 ∷ 59 ∷ 57 ∷ 55 ∷ 53 ∷ 51 ∷ 49 ∷ 47 ∷ 45 ∷ 43 ∷ 41 ∷ 39 ∷ 37 ∷ 35 ∷ 33 ∷ 31 ∷ 29 ∷ 27 ∷ 25 ∷ 23 ∷ 21 ∷ 19 ∷ 17 ∷ 15 ∷
-            13 ∷ 11 ∷ 9 ∷ 7 ∷ 5 ∷ 3 ∷ 1 ∷ []) $ group ! 43 $ move ! (44 ∷ 45 ∷ 0 ∷ []) $ by ! begins
+            13 ∷ 11 ∷ 9 ∷ 7 ∷ 5 ∷ 3 ∷ 1 ∷ []) $ group ! 43 $ move ! (44 ∷ 45 ∷ 0 ∷ []) $ begins
 
-      walk : ent 𝓤 (onEntry 𝓤 H A play.signature κs qs a at) (WpFn 𝓤 H C Λ code.function (mach s start ∷ vint w64 actions ∷ SS′.lowered st ∷ sliceVal (ten .plan .ptr) (length (lists₀ .plan)) ∷
-          sliceVal (ten .g .ptr) (length (lists₀ .g)) ∷ sliceVal (ten .rhs .ptr) (length (lists₀ .rhs)) ∷ sliceVal (ten .parent .ptr) (length (lists₀ .parent)) ∷ sliceVal (ten .k1 .ptr)
-          (length (lists₀ .k1)) ∷ sliceVal (ten .k2 .ptr) (length (lists₀ .k2)) ∷ sliceVal (ten .place .ptr) (length (lists₀ .place)) ∷ sliceVal (ten .list .ptr) (length (lists₀ .list)) ∷
-          sliceVal (ten .way .ptr) (length (lists₀ .way)) ∷ sliceVal (ten .text .ptr) (length (lists₀ .text)) ∷ []) Post)
+      walk : ent 𝓤 (onEntry 𝓤 H A play.signature κs qs a at) (WpFn 𝓤 H C Λ code.function values Post)
       walk =
-          qed W ((‵ (flft (κs .0) (qs .0)) ⊛ (‵ (flft (κs .1 .0) (qs .1 .0)) ⊛ (‵ (flft (κs .1 .1 .0) (qs .1 .1 .0)) ⊛ (‵ (flft (κs .1 .1 .1 .0) (qs .1 .1 .1 .0)) ⊛
-          (‵ (flft (κs .1 .1 .1 .1 .0) (qs .1 .1 .1 .1 .0)) ⊛ (‵ (flft (κs .1 .1 .1 .1 .1 .0) (qs .1 .1 .1 .1 .1 .0)) ⊛ (‵ (flft (κs .1 .1 .1 .1 .1 .1 .0) (qs .1 .1 .1 .1 .1 .1 .0)) ⊛
-          (‵ (flft (κs .1 .1 .1 .1 .1 .1 .1 .0) (qs .1 .1 .1 .1 .1 .1 .1 .0)) ⊛ (‵ (flft (κs .1 .1 .1 .1 .1 .1 .1 .1 .0) (qs .1 .1 .1 .1 .1 .1 .1 .1 .0)) ⊛
-          (‵ (flft (κs .1 .1 .1 .1 .1 .1 .1 .1 .1 .0) (qs .1 .1 .1 .1 .1 .1 .1 .1 .1 .0)) ⊛ (‵ (flft (κs .1 .1 .1 .1 .1 .1 .1 .1 .1 .1 .0) (qs .1 .1 .1 .1 .1 .1 .1 .1 .1 .1 .0)) ⊛ ‵ ftrue))))))))))) ∷
-          ‵ (owns (B κs ∷ usize ∷ SS.the-row ∷ MutSlice (named 1) (κs .1 .0) u8 ∷ MutSlice (named 2) (κs .1 .1 .0) u32 ∷ MutSlice (named 3) (κs .1 .1 .1 .0) u32 ∷ MutSlice (named 4) (κs .1 .1 .1 .1 .0)
-          u8 ∷ MutSlice (named 5) (κs .1 .1 .1 .1 .1 .0) u32 ∷ MutSlice (named 6) (κs .1 .1 .1 .1 .1 .1 .0) u32 ∷ MutSlice (named 7) (κs .1 .1 .1 .1 .1 .1 .1 .0) u16 ∷
-          MutSlice (named 8) (κs .1 .1 .1 .1 .1 .1 .1 .1 .0) u16 ∷ MutSlice (named 9) (κs .1 .1 .1 .1 .1 .1 .1 .1 .1 .0) u16 ∷ MutSlice (named 10) (κs .1 .1 .1 .1 .1 .1 .1 .1 .1 .1 .0) u8 ∷ []) a at) ∷
-          []) ∵ enter ! C Λ code.function (mach s start ∷ vint w64 actions ∷ SS′.lowered st ∷ sliceVal (ten .plan .ptr) (length (lists₀ .plan)) ∷ sliceVal (ten .g .ptr) (length (lists₀ .g)) ∷
-          sliceVal (ten .rhs .ptr) (length (lists₀ .rhs)) ∷ sliceVal (ten .parent .ptr) (length (lists₀ .parent)) ∷ sliceVal (ten .k1 .ptr) (length (lists₀ .k1)) ∷ sliceVal (ten .k2 .ptr)
-          (length (lists₀ .k2)) ∷ sliceVal (ten .place .ptr) (length (lists₀ .place)) ∷ sliceVal (ten .list .ptr) (length (lists₀ .list)) ∷ sliceVal (ten .way .ptr) (length (lists₀ .way)) ∷
-          sliceVal (ten .text .ptr) (length (lists₀ .text)) ∷ []) Post $
-          allocates ! (code.function .locals) ((‵ (flft (κs .0) (qs .0)) ⊛ (‵ (flft (κs .1 .0) (qs .1 .0)) ⊛ (‵ (flft (κs .1 .1 .0) (qs .1 .1 .0)) ⊛ (‵ (flft (κs .1 .1 .1 .0) (qs .1 .1 .1 .0)) ⊛
-          (‵ (flft (κs .1 .1 .1 .1 .0) (qs .1 .1 .1 .1 .0)) ⊛ (‵ (flft (κs .1 .1 .1 .1 .1 .0) (qs .1 .1 .1 .1 .1 .0)) ⊛ (‵ (flft (κs .1 .1 .1 .1 .1 .1 .0) (qs .1 .1 .1 .1 .1 .1 .0)) ⊛
-          (‵ (flft (κs .1 .1 .1 .1 .1 .1 .1 .0) (qs .1 .1 .1 .1 .1 .1 .1 .0)) ⊛ (‵ (flft (κs .1 .1 .1 .1 .1 .1 .1 .1 .0) (qs .1 .1 .1 .1 .1 .1 .1 .1 .0)) ⊛
-          (‵ (flft (κs .1 .1 .1 .1 .1 .1 .1 .1 .1 .0) (qs .1 .1 .1 .1 .1 .1 .1 .1 .1 .0)) ⊛ (‵ (flft (κs .1 .1 .1 .1 .1 .1 .1 .1 .1 .1 .0) (qs .1 .1 .1 .1 .1 .1 .1 .1 .1 .1 .0)) ⊛ ‵ ftrue))))))))))) ∷
-          ‵ (owns (B κs ∷ usize ∷ SS.the-row ∷ MutSlice (named 1) (κs .1 .0) u8 ∷ MutSlice (named 2) (κs .1 .1 .0) u32 ∷ MutSlice (named 3) (κs .1 .1 .1 .0) u32 ∷ MutSlice (named 4) (κs .1 .1 .1 .1 .0)
-          u8 ∷ MutSlice (named 5) (κs .1 .1 .1 .1 .1 .0) u32 ∷ MutSlice (named 6) (κs .1 .1 .1 .1 .1 .1 .0) u32 ∷ MutSlice (named 7) (κs .1 .1 .1 .1 .1 .1 .1 .0) u16 ∷
-          MutSlice (named 8) (κs .1 .1 .1 .1 .1 .1 .1 .1 .0) u16 ∷ MutSlice (named 9) (κs .1 .1 .1 .1 .1 .1 .1 .1 .1 .0) u16 ∷ MutSlice (named 10) (κs .1 .1 .1 .1 .1 .1 .1 .1 .1 .1 .0) u8 ∷ []) a at) ∷
-          []) (λ E. params′ E (mach s start ∷ vint w64 actions ∷ SS′.lowered st ∷ sliceVal (ten .plan .ptr) (length (lists₀ .plan)) ∷ sliceVal (ten .g .ptr) (length (lists₀ .g)) ∷
-          sliceVal (ten .rhs .ptr) (length (lists₀ .rhs)) ∷ sliceVal (ten .parent .ptr) (length (lists₀ .parent)) ∷ sliceVal (ten .k1 .ptr) (length (lists₀ .k1)) ∷ sliceVal (ten .k2 .ptr)
-          (length (lists₀ .k2)) ∷ sliceVal (ten .place .ptr) (length (lists₀ .place)) ∷ sliceVal (ten .list .ptr) (length (lists₀ .list)) ∷ sliceVal (ten .way .ptr) (length (lists₀ .way)) ∷
-          sliceVal (ten .text .ptr) (length (lists₀ .text)) ∷ []) (runs C Λ E (code.function .body) (atRet E Post)))
-          (λ bs. by ! (stored (bs .0) (bs .1 .0) (bs .1 .1 .0) (bs .1 .1 .1 .0) (bs .1 .1 .1 .1 .0) (bs .1 .1 .1 .1 .1 .0) (bs .1 .1 .1 .1 .1 .1 .0) (bs .1 .1 .1 .1 .1 .1 .1 .0)
-          (bs .1 .1 .1 .1 .1 .1 .1 .1 .0) (bs .1 .1 .1 .1 .1 .1 .1 .1 .1 .0) (bs .1 .1 .1 .1 .1 .1 .1 .1 .1 .1 .0) (bs .1 .1 .1 .1 .1 .1 .1 .1 .1 .1 .1 .0) (bs .1 .1 .1 .1 .1 .1 .1 .1 .1 .1 .1 .1 .0)
-          (bs .1 .1 .1 .1 .1 .1 .1 .1 .1 .1 .1 .1 .1 .0) (bs .1 .1 .1 .1 .1 .1 .1 .1 .1 .1 .1 .1 .1 .1 .0) (bs .1 .1 .1 .1 .1 .1 .1 .1 .1 .1 .1 .1 .1 .1 .1 .0)
-          (bs .1 .1 .1 .1 .1 .1 .1 .1 .1 .1 .1 .1 .1 .1 .1 .1 .0) (bs .1 .1 .1 .1 .1 .1 .1 .1 .1 .1 .1 .1 .1 .1 .1 .1 .1 .0) (bs .1 .1 .1 .1 .1 .1 .1 .1 .1 .1 .1 .1 .1 .1 .1 .1 .1 .1 .0)
-          (bs .1 .1 .1 .1 .1 .1 .1 .1 .1 .1 .1 .1 .1 .1 .1 .1 .1 .1 .1 .0) (bs .1 .1 .1 .1 .1 .1 .1 .1 .1 .1 .1 .1 .1 .1 .1 .1 .1 .1 .1 .1 .0)
-          (bs .1 .1 .1 .1 .1 .1 .1 .1 .1 .1 .1 .1 .1 .1 .1 .1 .1 .1 .1 .1 .1 .0) (bs .1 .1 .1 .1 .1 .1 .1 .1 .1 .1 .1 .1 .1 .1 .1 .1 .1 .1 .1 .1 .1 .1 .0)
-          (bs .1 .1 .1 .1 .1 .1 .1 .1 .1 .1 .1 .1 .1 .1 .1 .1 .1 .1 .1 .1 .1 .1 .1 .0) (bs .1 .1 .1 .1 .1 .1 .1 .1 .1 .1 .1 .1 .1 .1 .1 .1 .1 .1 .1 .1 .1 .1 .1 .1 .0)
-          (bs .1 .1 .1 .1 .1 .1 .1 .1 .1 .1 .1 .1 .1 .1 .1 .1 .1 .1 .1 .1 .1 .1 .1 .1 .1 .0) (bs .1 .1 .1 .1 .1 .1 .1 .1 .1 .1 .1 .1 .1 .1 .1 .1 .1 .1 .1 .1 .1 .1 .1 .1 .1 .1 .0)
-          (bs .1 .1 .1 .1 .1 .1 .1 .1 .1 .1 .1 .1 .1 .1 .1 .1 .1 .1 .1 .1 .1 .1 .1 .1 .1 .1 .1 .0) (bs .1 .1 .1 .1 .1 .1 .1 .1 .1 .1 .1 .1 .1 .1 .1 .1 .1 .1 .1 .1 .1 .1 .1 .1 .1 .1 .1 .1 .0)
-          (bs .1 .1 .1 .1 .1 .1 .1 .1 .1 .1 .1 .1 .1 .1 .1 .1 .1 .1 .1 .1 .1 .1 .1 .1 .1 .1 .1 .1 .1 .0)
-          (bs .1 .1 .1 .1 .1 .1 .1 .1 .1 .1 .1 .1 .1 .1 .1 .1 .1 .1 .1 .1 .1 .1 .1 .1 .1 .1 .1 .1 .1 .1 .0)
-          (bs .1 .1 .1 .1 .1 .1 .1 .1 .1 .1 .1 .1 .1 .1 .1 .1 .1 .1 .1 .1 .1 .1 .1 .1 .1 .1 .1 .1 .1 .1 .1 .0)
-          (bs .1 .1 .1 .1 .1 .1 .1 .1 .1 .1 .1 .1 .1 .1 .1 .1 .1 .1 .1 .1 .1 .1 .1 .1 .1 .1 .1 .1 .1 .1 .1 .1 .0)
-          (bs .1 .1 .1 .1 .1 .1 .1 .1 .1 .1 .1 .1 .1 .1 .1 .1 .1 .1 .1 .1 .1 .1 .1 .1 .1 .1 .1 .1 .1 .1 .1 .1 .1 .0)
-          (bs .1 .1 .1 .1 .1 .1 .1 .1 .1 .1 .1 .1 .1 .1 .1 .1 .1 .1 .1 .1 .1 .1 .1 .1 .1 .1 .1 .1 .1 .1 .1 .1 .1 .1 .0)
-          (bs .1 .1 .1 .1 .1 .1 .1 .1 .1 .1 .1 .1 .1 .1 .1 .1 .1 .1 .1 .1 .1 .1 .1 .1 .1 .1 .1 .1 .1 .1 .1 .1 .1 .1 .1 .0)
-          (bs .1 .1 .1 .1 .1 .1 .1 .1 .1 .1 .1 .1 .1 .1 .1 .1 .1 .1 .1 .1 .1 .1 .1 .1 .1 .1 .1 .1 .1 .1 .1 .1 .1 .1 .1 .1 .0)
-          (bs .1 .1 .1 .1 .1 .1 .1 .1 .1 .1 .1 .1 .1 .1 .1 .1 .1 .1 .1 .1 .1 .1 .1 .1 .1 .1 .1 .1 .1 .1 .1 .1 .1 .1 .1 .1 .1 .0)
-          (bs .1 .1 .1 .1 .1 .1 .1 .1 .1 .1 .1 .1 .1 .1 .1 .1 .1 .1 .1 .1 .1 .1 .1 .1 .1 .1 .1 .1 .1 .1 .1 .1 .1 .1 .1 .1 .1 .1 .0)
-          (bs .1 .1 .1 .1 .1 .1 .1 .1 .1 .1 .1 .1 .1 .1 .1 .1 .1 .1 .1 .1 .1 .1 .1 .1 .1 .1 .1 .1 .1 .1 .1 .1 .1 .1 .1 .1 .1 .1 .1 .0)
-          (bs .1 .1 .1 .1 .1 .1 .1 .1 .1 .1 .1 .1 .1 .1 .1 .1 .1 .1 .1 .1 .1 .1 .1 .1 .1 .1 .1 .1 .1 .1 .1 .1 .1 .1 .1 .1 .1 .1 .1 .1 .0)
-          (bs .1 .1 .1 .1 .1 .1 .1 .1 .1 .1 .1 .1 .1 .1 .1 .1 .1 .1 .1 .1 .1 .1 .1 .1 .1 .1 .1 .1 .1 .1 .1 .1 .1 .1 .1 .1 .1 .1 .1 .1 .1 .0)
-          (bs .1 .1 .1 .1 .1 .1 .1 .1 .1 .1 .1 .1 .1 .1 .1 .1 .1 .1 .1 .1 .1 .1 .1 .1 .1 .1 .1 .1 .1 .1 .1 .1 .1 .1 .1 .1 .1 .1 .1 .1 .1 .1 .0)))
+          qed W (Tokens ∷ ‵ Owned ∷ []) ∵ enter ! C Λ code.function values Post $
+          allocates ! (code.function .locals) (Tokens ∷ ‵ Owned ∷ []) (λ E. params′ E values (runs C Λ E (code.function .body) (atRet E Post)))
+          (λ l₀ l₁ l₂ l₃ l₄ l₅ l₆ l₇ l₈ l₉ l₁₀ l₁₁ l₁₂ l₁₃ l₁₄ l₁₅ l₁₆ l₁₇ l₁₈ l₁₉ l₂₀ l₂₁ l₂₂ l₂₃ l₂₄ l₂₅ l₂₆ l₂₇ l₂₈ l₂₉ l₃₀ l₃₁ l₃₂ l₃₃ l₃₄ l₃₅ l₃₆ l₃₇ l₃₈ l₃₉ l₄₀ l₄₁ l₄₂. stored l₀ l₁ l₂ l₃ l₄ l₅
+          l₆ l₇ l₈ l₉ l₁₀ l₁₁ l₁₂ l₁₃ l₁₄ l₁₅ l₁₆ l₁₇ l₁₈ l₁₉ l₂₀ l₂₁ l₂₂ l₂₃ l₂₄ l₂₅ l₂₆ l₂₇ l₂₈ l₂₉ l₃₀ l₃₁ l₃₂ l₃₃ l₃₄ l₃₅ l₃₆ l₃₇ l₃₈ l₃₉ l₄₀ l₄₁ l₄₂)
 
 module _ {M : Type 1} (𝓤 : URA M) (H : Heap 𝓤) (A : Atoms 𝓤) (W : Given 𝓤 H A) (mem : Memory → SProp 𝓤) (run : Routine → Fun 𝓤) (𝓣 : RunTables 𝓤 H)
     (known-next : Triple 𝓤 (𝓣 .C #drill-file·next) (Next 𝓤 H A mem run)) (known-moved : Triple 𝓤 (𝓣 .C #drill-file·moved) (Moved 𝓤 H A mem run))
@@ -1120,17 +747,14 @@ module _ {M : Type 1} (𝓤 : URA M) (H : Heap 𝓤) (A : Atoms 𝓤) (W : Given
       needs 𝓤 _ _ (λ pre. walk 𝓤 H A W mem run κs qs a (held .0) (held .1 .0 .1) (are .1 .0 .1) (are .1 .1 .0) (record {
         plan = are .1 .1 .1 .0 .0 .1;
         g = are .1 .1 .1 .1 .0 .0 .1;
-        rhs
-            = are .1 .1 .1 .1 .1 .0 .0 .1;
+        rhs = are .1 .1 .1 .1 .1 .0 .0 .1;
         parent = are .1 .1 .1 .1 .1 .1 .0 .0 .1;
         k1 = are .1 .1 .1 .1 .1 .1 .1 .0 .0 .1;
         k2 = are .1 .1 .1 .1 .1 .1 .1 .1 .0 .0 .1;
-        place
-            = are .1 .1 .1 .1 .1 .1 .1 .1 .1 .0 .0 .1;
+        place = are .1 .1 .1 .1 .1 .1 .1 .1 .1 .0 .0 .1;
         list = are .1 .1 .1 .1 .1 .1 .1 .1 .1 .1 .0 .0 .1;
         way = are .1 .1 .1 .1 .1 .1 .1 .1 .1 .1 .1 .0 .0 .1;
-        text
-            = are .1 .1 .1 .1 .1 .1 .1 .1 .1 .1 .1 .1 .0 .0 .1;
+        text = are .1 .1 .1 .1 .1 .1 .1 .1 .1 .1 .1 .1 .0 .0 .1;
       }) pre 𝓣 (fmOf 𝓤 H (W .laws) 𝓣) known-next known-moved known-goes known-action))
 
   play-meets : Meets 𝓤 H A play.signature (WpFn 𝓤 H (𝓣 .C) (𝓣 .Λ) code.function) (play.spec 𝓤 H A mem run)

@@ -4,11 +4,11 @@
 -- The loop's invariant is the whole context at a state: the session, where the reader stands, how many actions are left over, what is written, the lists behind the ten tables, and what
 -- `PrintLaws.antt` says of them (`SoFar`).
 -- All that the proof knows of the callees is that each meets its contract. Written by tools/play_all.py. Assumes nothing.
-use mathlib.Core.Path.{_≡_, refl, sym, ap, subst, _∙_}
-use mathlib.Core.Bool.{Bool, true, false, not}
+use mathlib.Core.Path.{_≡_, refl, sym, ap, subst}
+use mathlib.Core.Bool.{true, false, not}
 use mathlib.Core.Logic.{_⊎_, inr}
 use mathlib.Core.WellFounded.{WellFounded, InvImage·wf}
-use Prim.Native.Nat.{ℕ, _+_, _<_, _≤_, _^_}
+use Prim.Native.Nat.{ℕ, _+_, _<_, _^_}
 use native.Mathlib.Omega.{arith}
 use mathlib.Core.List.{List, [], _∷_}
 use lib.Dec.{T as Holds, ltb, ltb→lt, lt→ltb, T-not}
@@ -22,24 +22,24 @@ use base.Logic.{SProp, ent, sep, ex, guard, emp, snd∗, exE, id⊢}
 use base.Fml.{Lft, Share, GName, Fml, ftrue, fsep, fat, froom, fdies, flft}
 use prog.Memory.{Memory}
 use prog.Routine.{Routine}
-use prog.Wp.{Heap, Out as Way, Env, Calls, Loops, WpFn, Tables as RunTables, Wp, afterSeq, afterBlock, afterTurn, atReturn, params}
+use prog.Wp.{Heap, Out as Way, Env, Calls, Loops, WpFn, Tables as RunTables, Wp, afterSeq, afterBlock, afterTurn, atReturn}
 use ghost.Atoms.{Atoms, sem}
 use contract.Lifetimes.{Lfts, Shares}
 use contract.Monad.{Fun, fact}
 use contract.Running.{givenOf, tables as tablesAt, tablesOf}
-use types.Kit.{Given, Item, ‵, raw, mean, _⊛_, given, ⋆, some, later, Post as WalkPost, anyQ, post, atRet, runs, params′, _$_, _∵_, !, qed, by, move, keep, group, drop, use0, use1, use2, use3, split}
-use types.Kit.{join, pick, learn, rewrite, check, fsplit, fjoin, suffices, frame, await, updating, now as at-once, show, done}
+use types.Kit.{Given, Sq, Item, ‵, raw, mean, _⊛_, given, ⋆, some, later, Post as WalkPost, anyQ, post, atRet, runs, params′, _$_, _∵_, !, qed, by, move, keep, group, drop, use0, use1, use2, use3}
+use types.Kit.{split, join, pick, learn, rewrite, check, fsplit, fjoin, suffices, frame, await, updating, now as at-once, show, done}
 use types.Part.{whole, sub, look-in, agg}
 use types.Run.{look, init, store, forget, stop, hop, fld, from, load, lit, false-lit, of-opd, bin, addr, and-then, no-more, assigns, assigns-last, land, exec, returns, again, Below, enter, params1}
 use types.Run.{pass1, pass0, free1, free0}
 use sound.Loop.{loop-rule}
 use sound.WpLaws.{FmC, fmOf, WpFn-mono}
-use denote.RattleType.{RattleType, owns}
+use denote.RattleType.{owns}
 use denote.Laws.{Is, shows}
 use denote.Plain.{uint-vals, uint-tells, uint-makes}
 use denote.Builtin.{u8, u16, u32, usize}
 use denote.Ref.{RefT, now}
-use denote.Signature.{plain, namedLft}
+use denote.Signature.{plain}
 use denote.Slice.{sliceTy, sliceVal, ShrSlice, MutSlice, slice-vals, shr-slice-tells, mut-slice-tells, shr-slice-lawful, shr-slice-copy}
 use denote.Steps.{only, owned, peeks, heard, nothing}
 use denote.Struct.Laws as LL
@@ -55,7 +55,7 @@ use Rattle.tables.specs.declared.Session.{Session}
 use Rattle.tables.proofs.Session as SS
 use Rattle.tables.proofs.Session.Laws as SS′
 use Rattle.drill_file.proofs.Reader.Laws as RD′
-use Rattle.drill_file.proofs.LoopSteps.{rest, whiles, allocates, storing}
+use Rattle.drill_file.proofs.LoopSteps.{rest, whiles, allocates}
 use Rattle.drill_file.proofs.OneReader.{Reading, MovedTo, v, made, mach, Reads, Own, typed, holds, to-reading, goes-reading, gives-reading, to-moved-to, goes-moved-to, gives-moved-to}
 use Rattle.drill_file.proofs.reading.Symbol as reading-def
 use Rattle.drill_file.proofs.reading.Symbol.{name as #drill-file·reading}
@@ -68,13 +68,14 @@ use Rattle.drill.specs.Output.{output}
 use Rattle.drill.specs.Promises.{Plays}
 use Rattle.drill.proofs.Played as PL
 use Rattle.drill.proofs.Played.Laws as PL′
-use Rattle.play.proofs.TenTables.{Passed, Lists, listsOf, tablesIn, AsLong, as-long, same-long, Rooms, Names, Outs, Backs, Alive, Held, Text, Hidden, lends-ten, regains-ten, shows-text, hides-text}
+use Rattle.play.proofs.TenTables.{Passed, Lists, listsOf, lent-as, tablesIn, slices, lents, lasts-of, longs, AsLong, as-long, same-long, Rooms, Names, Outs, Backs, Alive, Held, Text, Hidden}
+use Rattle.play.proofs.TenTables.{lends-ten, regains-ten, shows-text, hides-text}
 use Rattle.play.proofs.play as play
 use Rattle.play.proofs.play.Symbol as play-def
 use Rattle.play.proofs.play.Symbol.{name as #play·play}
 use Rattle.play.proofs.play.Met as play-thm
 use Rattle.printing.specs.declared.Written.{Written}
-use Rattle.printing.specs.Promises.{Piece, Printing}
+use Rattle.printing.specs.Promises.{Piece, Printing, WrittenTo}
 use Rattle.printing.proofs.Written as WR
 use Rattle.printing.proofs.Written.Laws as WR′
 use Rattle.printing.proofs.PrintLaws.{SoFar, goes-on, all-done, piece, next-so-far, next-fewer}
@@ -184,7 +185,7 @@ record Handed (printed used : ℕ) (u : Val) : Type 0 where
   written : Written
   told : u ≡ WR′.lowered written
   is : Is WR.the-row written (WR′.lowered written ∷ [])
-  outcome : (written .failed ≡ true) ⊎ (written .bytes ≡ printed + used)
+  outcome : WrittenTo written (printed + used)
 
 -- what `left_over` gives
 abbrev Over : Written → ℕ → ℕ → Type 0
@@ -260,12 +261,10 @@ module _ {M : Type 1} (𝓤 : URA M) (H : Heap 𝓤) (A : Atoms 𝓤) (W : Given
     g = a .1 .1 .1 .1 .1 .1 .1 .1 .0;
     rhs = a .1 .1 .1 .1 .1 .1 .1 .1 .1 .0;
     parent = a .1 .1 .1 .1 .1 .1 .1 .1 .1 .1 .0;
-    k1
-        = a .1 .1 .1 .1 .1 .1 .1 .1 .1 .1 .1 .0;
+    k1 = a .1 .1 .1 .1 .1 .1 .1 .1 .1 .1 .1 .0;
     k2 = a .1 .1 .1 .1 .1 .1 .1 .1 .1 .1 .1 .1 .0;
     place = a .1 .1 .1 .1 .1 .1 .1 .1 .1 .1 .1 .1 .1 .0;
-    list
-        = a .1 .1 .1 .1 .1 .1 .1 .1 .1 .1 .1 .1 .1 .1 .0;
+    list = a .1 .1 .1 .1 .1 .1 .1 .1 .1 .1 .1 .1 .1 .1 .0;
     way = a .1 .1 .1 .1 .1 .1 .1 .1 .1 .1 .1 .1 .1 .1 .1 .0;
     text = a .1 .1 .1 .1 .1 .1 .1 .1 .1 .1 .1 .1 .1 .1 .1 .1 .0;
   }
@@ -274,56 +273,27 @@ module _ {M : Type 1} (𝓤 : URA M) (H : Heap 𝓤) (A : Atoms 𝓤) (W : Given
   lists₀ = listsOf ten
 
   abbrev at : Vals play-all.signature κs
-  at = (
-    v input ∷ [],
-    (
-      vint w64 got ∷ [],
-      (
-        v s ∷ [],
-        (
-          vint w64 start ∷ [],
-          (
-            vint w64 actions ∷
-                [],
-            (
-              SS′.lowered st ∷ [],
-              (
-                vint w64 printed ∷ [],
-                (
-                  sliceVal (ten .plan .ptr) (length (lists₀ .plan)) ∷ [],
-                  (
-                    sliceVal (ten .g .ptr) (length (lists₀ .g)) ∷
-                        [],
-                    (
-                      sliceVal (ten .rhs .ptr) (length (lists₀ .rhs)) ∷ [],
-                      (
-                        sliceVal (ten .parent .ptr) (length (lists₀ .parent)) ∷ [],
-                        (
-                          sliceVal (ten .k1 .ptr) (length (lists₀ .k1)) ∷
-                              [],
-                          (
-                            sliceVal (ten .k2 .ptr) (length (lists₀ .k2)) ∷ [],
-                            (
-                              sliceVal (ten .place .ptr) (length (lists₀ .place)) ∷ [],
-                              (
-                                sliceVal (ten .list .ptr) (length (lists₀ .list)) ∷
-                                    [],
-                                (sliceVal (ten .way .ptr) (length (lists₀ .way)) ∷ [], (sliceVal (ten .text .ptr) (length (lists₀ .text)) ∷ [], tt)),
-                              ),
-                            ),
-                          ),
-                        ),
-                      ),
-                    ),
-                  ),
-                ),
-              ),
-            ),
-          ),
-        ),
-      ),
-    ),
-  )
+  at = (v input ∷ [], (vint w64 got ∷ [], (v s ∷ [], (vint w64 start ∷ [], (vint w64 actions ∷ [], (SS′.lowered st ∷ [], (vint w64 printed ∷ [], slices ten tt)))))))
+
+  -- the machine values, and what is had at entry
+  abbrev values : List Val
+  values = v input ∷ vint w64 got ∷ v s ∷ vint w64 start ∷ vint w64 actions ∷ SS′.lowered st ∷ vint w64 printed ∷ sliceVal (ten .plan .ptr) (length (lists₀ .plan)) ∷
+      sliceVal (ten .g .ptr) (length (lists₀ .g)) ∷ sliceVal (ten .rhs .ptr) (length (lists₀ .rhs)) ∷ sliceVal (ten .parent .ptr) (length (lists₀ .parent)) ∷ sliceVal (ten .k1 .ptr)
+      (length (lists₀ .k1)) ∷ sliceVal (ten .k2 .ptr) (length (lists₀ .k2)) ∷ sliceVal (ten .place .ptr) (length (lists₀ .place)) ∷ sliceVal (ten .list .ptr) (length (lists₀ .list)) ∷
+      sliceVal (ten .way .ptr) (length (lists₀ .way)) ∷ sliceVal (ten .text .ptr) (length (lists₀ .text)) ∷ []
+
+  abbrev Tokens : Item 𝓤
+  Tokens = ‵ (flft (κs .0) (qs .0)) ⊛ (‵ (flft (κs .1 .0) (qs .1 .0)) ⊛ (‵ (flft (κs .1 .1 .0) (qs .1 .1 .0)) ⊛ (‵ (flft (κs .1 .1 .1 .0) (qs .1 .1 .1 .0)) ⊛
+      (‵ (flft (κs .1 .1 .1 .1 .0) (qs .1 .1 .1 .1 .0)) ⊛ (‵ (flft (κs .1 .1 .1 .1 .1 .0) (qs .1 .1 .1 .1 .1 .0)) ⊛ (‵ (flft (κs .1 .1 .1 .1 .1 .1 .0) (qs .1 .1 .1 .1 .1 .1 .0)) ⊛
+      (‵ (flft (κs .1 .1 .1 .1 .1 .1 .1 .0) (qs .1 .1 .1 .1 .1 .1 .1 .0)) ⊛ (‵ (flft (κs .1 .1 .1 .1 .1 .1 .1 .1 .0) (qs .1 .1 .1 .1 .1 .1 .1 .1 .0)) ⊛
+      (‵ (flft (κs .1 .1 .1 .1 .1 .1 .1 .1 .1 .0) (qs .1 .1 .1 .1 .1 .1 .1 .1 .1 .0)) ⊛ (‵ (flft (κs .1 .1 .1 .1 .1 .1 .1 .1 .1 .1 .0) (qs .1 .1 .1 .1 .1 .1 .1 .1 .1 .1 .0)) ⊛
+      (‵ (flft (κs .1 .1 .1 .1 .1 .1 .1 .1 .1 .1 .1 .0) (qs .1 .1 .1 .1 .1 .1 .1 .1 .1 .1 .1 .0)) ⊛ ‵ ftrue)))))))))))
+
+  abbrev Owned : Fml
+  Owned = owns (ShrSlice (named 0) (κs .0) u8 ∷ usize ∷ ShrSlice (named 1) (κs .1 .0) u8 ∷ usize ∷ usize ∷ SS.the-row ∷ usize ∷ MutSlice (named 2) (κs .1 .1 .0) u8 ∷
+      MutSlice (named 3) (κs .1 .1 .1 .0) u32 ∷ MutSlice (named 4) (κs .1 .1 .1 .1 .0) u32 ∷ MutSlice (named 5) (κs .1 .1 .1 .1 .1 .0) u8 ∷ MutSlice (named 6) (κs .1 .1 .1 .1 .1 .1 .0) u32 ∷
+      MutSlice (named 7) (κs .1 .1 .1 .1 .1 .1 .1 .0) u32 ∷ MutSlice (named 8) (κs .1 .1 .1 .1 .1 .1 .1 .1 .0) u16 ∷ MutSlice (named 9) (κs .1 .1 .1 .1 .1 .1 .1 .1 .1 .0) u16 ∷
+      MutSlice (named 10) (κs .1 .1 .1 .1 .1 .1 .1 .1 .1 .1 .0) u16 ∷ MutSlice (named 11) (κs .1 .1 .1 .1 .1 .1 .1 .1 .1 .1 .1 .0) u8 ∷ []) a at
 
   abbrev Post : Val → SProp 𝓤
   Post = walkOf 𝓤 H A play-all.ended stayed (play-all.clauses 𝓤 H A mem run) .post ((κs, qs, tt, a, at), tt)
@@ -367,8 +337,7 @@ module _ {M : Type 1} (𝓤 : URA M) (H : Heap 𝓤) (A : Atoms 𝓤) (W : Given
       at-fits = start-fits;
       left-fits = actions-fits;
       written-is = first-written-is;
-      long
-          = same-long;
+      long = same-long;
       so-far = inr pre;
     }
 
@@ -416,7 +385,7 @@ module _ {M : Type 1} (𝓤 : URA M) (H : Heap 𝓤) (A : Atoms 𝓤) (W : Given
     some-left : (x : X) → Holds (ltb 0 (x .left)) → 0 < x .left
     some-left x held = ltb→lt 0 (x .left) held
 
-    ends-here : (x : X) → Holds (not (ltb 0 (x .left))) → (x .written .failed ≡ true) ⊎ (x .written .bytes ≡ length (output (now s)))
+    ends-here : (x : X) → Holds (not (ltb 0 (x .left))) → WrittenTo (x .written) (length (output (now s)))
     ends-here x failed = all-done (x .so-far) (none-left (x .left) (λ more. T-not (ltb 0 (x .left)) failed (lt→ltb 0 (x .left) more)))
       where
         none-left : (n : ℕ) → (0 < n → ⊥) → n ≡ 0
@@ -445,178 +414,43 @@ module _ {M : Type 1} (𝓤 : URA M) (H : Heap 𝓤) (A : Atoms 𝓤) (W : Given
     holds-all : ent 𝓤 (onEntry 𝓤 H A play-all.signature κs qs a at) (sep 𝓤 (mean 𝓤 H A ((‵ (flft κ₀ q₀) ⊛ ‵ ftrue) ⊛ ‵ (Own 𝓤 H A W mem run κ₀ q₀ s)))
         (sep 𝓤 (mean 𝓤 H A ((‵ (flft κᵢ qᵢ) ⊛ ‵ ftrue) ⊛ ‵ OwnRead)) (mean 𝓤 H A (Tables-at lists₀))))
     holds-all =
-        qed W ((‵ (flft (κs .0) (qs .0)) ⊛ (‵ (flft (κs .1 .0) (qs .1 .0)) ⊛ (‵ (flft (κs .1 .1 .0) (qs .1 .1 .0)) ⊛ (‵ (flft (κs .1 .1 .1 .0) (qs .1 .1 .1 .0)) ⊛
-        (‵ (flft (κs .1 .1 .1 .1 .0) (qs .1 .1 .1 .1 .0)) ⊛ (‵ (flft (κs .1 .1 .1 .1 .1 .0) (qs .1 .1 .1 .1 .1 .0)) ⊛ (‵ (flft (κs .1 .1 .1 .1 .1 .1 .0) (qs .1 .1 .1 .1 .1 .1 .0)) ⊛
-        (‵ (flft (κs .1 .1 .1 .1 .1 .1 .1 .0) (qs .1 .1 .1 .1 .1 .1 .1 .0)) ⊛ (‵ (flft (κs .1 .1 .1 .1 .1 .1 .1 .1 .0) (qs .1 .1 .1 .1 .1 .1 .1 .1 .0)) ⊛
-        (‵ (flft (κs .1 .1 .1 .1 .1 .1 .1 .1 .1 .0) (qs .1 .1 .1 .1 .1 .1 .1 .1 .1 .0)) ⊛ (‵ (flft (κs .1 .1 .1 .1 .1 .1 .1 .1 .1 .1 .0) (qs .1 .1 .1 .1 .1 .1 .1 .1 .1 .1 .0)) ⊛
-        (‵ (flft (κs .1 .1 .1 .1 .1 .1 .1 .1 .1 .1 .1 .0) (qs .1 .1 .1 .1 .1 .1 .1 .1 .1 .1 .1 .0)) ⊛ ‵ ftrue)))))))))))) ∷ ‵ (owns (ShrSlice (named 0) (κs .0) u8 ∷ usize ∷
-        ShrSlice (named 1) (κs .1 .0) u8 ∷ usize ∷ usize ∷ SS.the-row ∷ usize ∷ MutSlice (named 2) (κs .1 .1 .0) u8 ∷ MutSlice (named 3) (κs .1 .1 .1 .0) u32 ∷ MutSlice (named 4) (κs .1 .1 .1 .1 .0)
-        u32 ∷ MutSlice (named 5) (κs .1 .1 .1 .1 .1 .0) u8 ∷ MutSlice (named 6) (κs .1 .1 .1 .1 .1 .1 .0) u32 ∷ MutSlice (named 7) (κs .1 .1 .1 .1 .1 .1 .1 .0) u32 ∷
-        MutSlice (named 8) (κs .1 .1 .1 .1 .1 .1 .1 .1 .0) u16 ∷ MutSlice (named 9) (κs .1 .1 .1 .1 .1 .1 .1 .1 .1 .0) u16 ∷ MutSlice (named 10) (κs .1 .1 .1 .1 .1 .1 .1 .1 .1 .1 .0) u16 ∷
-        MutSlice (named 11) (κs .1 .1 .1 .1 .1 .1 .1 .1 .1 .1 .1 .0) u8 ∷ []) a at) ∷ []) ∵ split ! $ move ! (1 ∷ []) $ split ! $ nothing ! $ move ! (1 ∷ 0 ∷ []) $ join ! $ nothing ! $
-        move ! (3 ∷ 0 ∷ []) $ join ! $ move ! (3 ∷ []) $ fsplit ! $ move ! (1 ∷ []) $ fsplit ! $ drop ! $ fsplit ! $ move ! (1 ∷ []) $ fsplit ! $ drop ! $ fsplit ! $ drop ! $ fsplit ! $ drop ! $
-        fsplit ! $ drop ! $ move ! (4 ∷ 1 ∷ []) $ join ! $ frame ! $ move ! (2 ∷ 1 ∷ []) $ join ! $ frame ! $ move ! (1 ∷ 0 ∷ []) $ done !
+        qed W (Tokens ∷ ‵ Owned ∷ []) ∵ split ! $ move ! (1 ∷ []) $ split ! $ nothing ! $ move ! (1 ∷ 0 ∷ []) $ join ! $ nothing ! $ move ! (3 ∷ 0 ∷ []) $ join ! $ move ! (3 ∷ []) $ fsplit ! $
+        move ! (1 ∷ []) $ fsplit ! $ drop ! $ fsplit ! $ move ! (1 ∷ []) $ fsplit ! $ drop ! $ fsplit ! $ drop ! $ fsplit ! $ drop ! $ fsplit ! $ drop ! $ move ! (4 ∷ 1 ∷ []) $ join ! $ frame ! $
+        move ! (2 ∷ 1 ∷ []) $ join ! $ frame ! $ move ! (1 ∷ 0 ∷ []) $ done !
 
     -- ---- `play`, at the reader and the ten tables lent again
     module _ (x : X) (N : Names) where
+      abbrev lives : Lfts 11
+      lives = (κ₀, ((N .ν₁ ∷ []), ((N .ν₂ ∷ []), ((N .ν₃ ∷ []), ((N .ν₄ ∷ []), ((N .ν₅ ∷ []), ((N .ν₆ ∷ []), ((N .ν₇ ∷ []), ((N .ν₈ ∷ []), ((N .ν₉ ∷ []), ((N .ν₁₀ ∷ []), tt)))))))))))
+
+      abbrev passes : Args play.signature lives
+      passes = (made s (x .at), (x .left, (x .session, lents ten N (x .lists) tt)))
+
       abbrev to-play : Play 𝓤 H A mem run .Ghost
       to-play = (
         (
-          (κ₀, ((N .ν₁ ∷ []), ((N .ν₂ ∷ []), ((N .ν₃ ∷ []), ((N .ν₄ ∷ []), ((N .ν₅ ∷ []), ((N .ν₆ ∷ []), ((N .ν₇ ∷ []), ((N .ν₈ ∷ []), ((N .ν₉ ∷ []), ((N .ν₁₀ ∷ []), tt))))))))))),
+          lives,
           (q₀, (fullShare, (fullShare, (fullShare, (fullShare, (fullShare, (fullShare, (fullShare, (fullShare, (fullShare, (fullShare, tt))))))))))),
           tt,
-          (
-            made s (x .at),
-            (
-              x .left,
-              (
-                x .session,
-                (
-                  record { ptr = ten .plan .ptr; name = N .δ₁; now = x .lists .plan },
-                  (
-                    record { ptr = ten .g .ptr; name = N .δ₂; now = x .lists .g },
-                    (
-                      record { ptr = ten .rhs .ptr; name = N .δ₃; now = x .lists .rhs },
-                      (
-                        record { ptr = ten .parent .ptr; name = N .δ₄; now = x .lists .parent },
-                        (
-                          record { ptr = ten .k1 .ptr; name = N .δ₅; now = x .lists .k1 },
-                          (
-                            record { ptr = ten .k2 .ptr; name = N .δ₆; now = x .lists .k2 },
-                            (
-                              record {
-                                ptr = ten .place .ptr;
-                                name = N .δ₇;
-                                now
-                                    = x .lists .place;
-                              },
-                              (
-                                record { ptr = ten .list .ptr; name = N .δ₈; now = x .lists .list },
-                                (
-                                  record { ptr = ten .way .ptr; name = N .δ₉; now = x .lists .way },
-                                  (record { ptr = ten .text .ptr; name = N .δ₁₀; now = x .lists .text }, tt),
-                                ),
-                              ),
-                            ),
-                          ),
-                        ),
-                      ),
-                    ),
-                  ),
-                ),
-              ),
-            ),
-          ),
-          (
-            mach s (x .at) ∷ [],
-            (
-              vint w64 (x .left) ∷ [],
-              (
-                SS′.lowered (x .session) ∷
-                    [],
-                (
-                  sliceVal (ten .plan .ptr) (length (lists₀ .plan)) ∷ [],
-                  (
-                    sliceVal (ten .g .ptr) (length (lists₀ .g)) ∷ [],
-                    (
-                      sliceVal (ten .rhs .ptr) (length (lists₀ .rhs)) ∷
-                          [],
-                      (
-                        sliceVal (ten .parent .ptr) (length (lists₀ .parent)) ∷ [],
-                        (
-                          sliceVal (ten .k1 .ptr) (length (lists₀ .k1)) ∷ [],
-                          (
-                            sliceVal (ten .k2 .ptr) (length (lists₀ .k2)) ∷
-                                [],
-                            (
-                              sliceVal (ten .place .ptr) (length (lists₀ .place)) ∷ [],
-                              (
-                                sliceVal (ten .list .ptr) (length (lists₀ .list)) ∷ [],
-                                (
-                                  sliceVal (ten .way .ptr) (length (lists₀ .way)) ∷
-                                      [],
-                                  (sliceVal (ten .text .ptr) (length (lists₀ .text)) ∷ [], tt),
-                                ),
-                              ),
-                            ),
-                          ),
-                        ),
-                      ),
-                    ),
-                  ),
-                ),
-              ),
-            ),
-          ),
+          passes,
+          (mach s (x .at) ∷ [], (vint w64 (x .left) ∷ [], (SS′.lowered (x .session) ∷ [], slices ten tt))),
         ),
         tt,
       )
 
       -- the lists that it leaves
-      abbrev left-lists : Lasts play.ended (
-        κ₀,
-        (
-          (N .ν₁ ∷ []),
-          (
-            (N .ν₂ ∷ []),
-            ((N .ν₃ ∷ []), ((N .ν₄ ∷ []), ((N .ν₅ ∷ []), ((N .ν₆ ∷ []), ((N .ν₇ ∷ []), ((N .ν₈ ∷ []), ((N .ν₉ ∷ []), ((N .ν₁₀ ∷ []), tt)))))))),
-          ),
-        ),
-      ) (
-        made s (x .at),
-        (
-          x .left,
-          (
-            x .session,
-            (
-              record { ptr = ten .plan .ptr; name = N .δ₁; now = x .lists .plan },
-              (
-                record { ptr = ten .g .ptr; name = N .δ₂; now = x .lists .g },
-                (
-                  record { ptr = ten .rhs .ptr; name = N .δ₃; now = x .lists .rhs },
-                  (
-                    record { ptr = ten .parent .ptr; name = N .δ₄; now = x .lists .parent },
-                    (
-                      record { ptr = ten .k1 .ptr; name = N .δ₅; now = x .lists .k1 },
-                      (
-                        record { ptr = ten .k2 .ptr; name = N .δ₆; now = x .lists .k2 },
-                        (
-                          record {
-                            ptr = ten .place .ptr;
-                            name = N .δ₇;
-                            now
-                                = x .lists .place;
-                          },
-                          (
-                            record { ptr = ten .list .ptr; name = N .δ₈; now = x .lists .list },
-                            (
-                              record { ptr = ten .way .ptr; name = N .δ₉; now = x .lists .way },
-                              (record { ptr = ten .text .ptr; name = N .δ₁₀; now = x .lists .text }, tt),
-                            ),
-                          ),
-                        ),
-                      ),
-                    ),
-                  ),
-                ),
-              ),
-            ),
-          ),
-        ),
-      ) → Lists
+      abbrev left-lists : Lasts play.ended lives passes → Lists
       left-lists ws = record {
         plan = ws .1 .1 .1 .0;
         g = ws .1 .1 .1 .1 .0;
         rhs = ws .1 .1 .1 .1 .1 .0;
         parent = ws .1 .1 .1 .1 .1 .1 .0;
         k1 = ws .1 .1 .1 .1 .1 .1 .1 .0;
-        k2
-            = ws .1 .1 .1 .1 .1 .1 .1 .1 .0;
+        k2 = ws .1 .1 .1 .1 .1 .1 .1 .1 .0;
         place = ws .1 .1 .1 .1 .1 .1 .1 .1 .1 .0;
         list = ws .1 .1 .1 .1 .1 .1 .1 .1 .1 .1 .0;
         way = ws .1 .1 .1 .1 .1 .1 .1 .1 .1 .1 .1 .0;
-        text
-            = ws .1 .1 .1 .1 .1 .1 .1 .1 .1 .1 .1 .1 .0;
+        text = ws .1 .1 .1 .1 .1 .1 .1 .1 .1 .1 .1 .1 .0;
       }
 
       asks-play : 0 < x .left → ent 𝓤 (sep 𝓤 (mean 𝓤 H A (‵ (flft κ₀ q₀) ⊛ Alive (κs .1 .1) (qs .1 .1) ten 𝓤 N))
@@ -644,171 +478,10 @@ module _ {M : Type 1} (𝓤 : URA M) (H : Heap 𝓤) (A : Atoms 𝓤) (W : Given
     regains-all x N u =
         qed W (raw (Play 𝓤 H A mem run .post (to-play x N) u) ∷ ‵ (Kept-of x N) ∷ []) ∵ updating ! $
         use1 W (later (some (λ (t : Played). ((‵ (flft κ₀ q₀) ⊛ Alive (κs .1 .1) (qs .1 .1) ten 𝓤 N) ⊛ ‵ (PL.the-row .own t (u ∷ []))) ⊛ raw (ensured 𝓤 H A play.ended (play.clauses 𝓤 H A mem run)
-        (κ₀, ((N .ν₁ ∷ []), ((N .ν₂ ∷ []), ((N .ν₃ ∷ []), ((N .ν₄ ∷ []), ((N .ν₅ ∷ []), ((N .ν₆ ∷ []), ((N .ν₇ ∷ []), ((N .ν₈ ∷ []), ((N .ν₉ ∷ []), ((N .ν₁₀ ∷ []), tt))))))))))) (
-          made s (x .at),
-          (
-            x .left,
-            (
-              x .session,
-              (
-                record { ptr = ten .plan .ptr; name = N .δ₁; now = x .lists .plan },
-                (
-                  record { ptr = ten .g .ptr; name = N .δ₂; now = x .lists .g },
-                  (
-                    record { ptr = ten .rhs .ptr; name = N .δ₃; now = x .lists .rhs },
-                    (
-                      record { ptr = ten .parent .ptr; name = N .δ₄; now = x .lists .parent },
-                      (
-                        record {
-                          ptr = ten .k1 .ptr;
-                          name = N .δ₅;
-                          now
-                              = x .lists .k1;
-                        },
-                        (
-                          record { ptr = ten .k2 .ptr; name = N .δ₆; now = x .lists .k2 },
-                          (
-                            record { ptr = ten .place .ptr; name = N .δ₇; now = x .lists .place },
-                            (
-                              record { ptr = ten .list .ptr; name = N .δ₈; now = x .lists .list },
-                              (
-                                record { ptr = ten .way .ptr; name = N .δ₉; now = x .lists .way },
-                                (
-                                  record {
-                                    ptr = ten .text .ptr;
-                                    name = N .δ₁₀;
-                                    now
-                                        = x .lists .text;
-                                  },
-                                  tt,
-                                ),
-                              ),
-                            ),
-                          ),
-                        ),
-                      ),
-                    ),
-                  ),
-                ),
-              ),
-            ),
-          ),
-        ) tt t)))) (id⊢ 𝓤 _) $ await ! tt $ pick ! (λ t. split ! $ move ! (1 ∷ []) $
-        use1 W (some (λ (ws : Lasts play.ended (
-          κ₀,
-          (
-            (N .ν₁ ∷ []),
-            (
-              (N .ν₂ ∷ []),
-              ((N .ν₃ ∷ []), ((N .ν₄ ∷ []), ((N .ν₅ ∷ []), ((N .ν₆ ∷ []), ((N .ν₇ ∷ []), ((N .ν₈ ∷ []), ((N .ν₉ ∷ []), ((N .ν₁₀ ∷ []), tt)))))))),
-            ),
-          ),
-        ) (
-          made s (x .at),
-          (
-            x .left,
-            (
-              x .session,
-              (
-                record { ptr = ten .plan .ptr; name = N .δ₁; now = x .lists .plan },
-                (
-                  record { ptr = ten .g .ptr; name = N .δ₂; now = x .lists .g },
-                  (
-                    record { ptr = ten .rhs .ptr; name = N .δ₃; now = x .lists .rhs },
-                    (
-                      record { ptr = ten .parent .ptr; name = N .δ₄; now = x .lists .parent },
-                      (
-                        record {
-                          ptr = ten .k1 .ptr;
-                          name = N .δ₅;
-                          now
-                              = x .lists .k1;
-                        },
-                        (
-                          record { ptr = ten .k2 .ptr; name = N .δ₆; now = x .lists .k2 },
-                          (
-                            record { ptr = ten .place .ptr; name = N .δ₇; now = x .lists .place },
-                            (
-                              record { ptr = ten .list .ptr; name = N .δ₈; now = x .lists .list },
-                              (
-                                record { ptr = ten .way .ptr; name = N .δ₉; now = x .lists .way },
-                                (
-                                  record {
-                                    ptr = ten .text .ptr;
-                                    name = N .δ₁₀;
-                                    now
-                                        = x .lists .text;
-                                  },
-                                  tt,
-                                ),
-                              ),
-                            ),
-                          ),
-                        ),
-                      ),
-                    ),
-                  ),
-                ),
-              ),
-            ),
-          ),
-        )). ‵ (lasts play.ended (
-          κ₀,
-          (
-            (N .ν₁ ∷ []),
-            ((N .ν₂ ∷ []), ((N .ν₃ ∷ []), ((N .ν₄ ∷ []), ((N .ν₅ ∷ []), ((N .ν₆ ∷ []), ((N .ν₇ ∷ []), ((N .ν₈ ∷ []), ((N .ν₉ ∷ []), ((N .ν₁₀ ∷ []), tt))))))))),
-          ),
-        ) (
-          made s (x .at),
-          (
-            x .left,
-            (
-              x .session,
-              (
-                record { ptr = ten .plan .ptr; name = N .δ₁; now = x .lists .plan },
-                (
-                  record { ptr = ten .g .ptr; name = N .δ₂; now = x .lists .g },
-                  (
-                    record { ptr = ten .rhs .ptr; name = N .δ₃; now = x .lists .rhs },
-                    (
-                      record { ptr = ten .parent .ptr; name = N .δ₄; now = x .lists .parent },
-                      (
-                        record {
-                          ptr = ten .k1 .ptr;
-                          name = N .δ₅;
-                          now
-                              = x .lists .k1;
-                        },
-                        (
-                          record { ptr = ten .k2 .ptr; name = N .δ₆; now = x .lists .k2 },
-                          (
-                            record { ptr = ten .place .ptr; name = N .δ₇; now = x .lists .place },
-                            (
-                              record { ptr = ten .list .ptr; name = N .δ₈; now = x .lists .list },
-                              (
-                                record { ptr = ten .way .ptr; name = N .δ₉; now = x .lists .way },
-                                (
-                                  record {
-                                    ptr = ten .text .ptr;
-                                    name = N .δ₁₀;
-                                    now
-                                        = x .lists .text;
-                                  },
-                                  tt,
-                                ),
-                              ),
-                            ),
-                          ),
-                        ),
-                      ),
-                    ),
-                  ),
-                ),
-              ),
-            ),
-          ),
-        ) ws) ⊛ raw (fact 𝓤 (Plays (now s) (x .session) (tablesIn (x .lists)) ((x .lists) .way) (x .at) (x .left) ((x .lists) .text) t (tablesIn (left-lists x N ws))
-        ((left-lists x N ws) .way) ((left-lists x N ws) .text))))) (id⊢ 𝓤 _) $ pick ! (λ ws. split ! $ move ! (1 ∷ []) $
+        (lives x N) (passes x N) tt t)))) (id⊢ 𝓤 _) $ await ! tt $ pick ! (λ t. split ! $ move ! (1 ∷ []) $
+        use1 W (some (λ (ws : Lasts play.ended (lives x N) (passes x N)). ‵ (lasts play.ended (lives x N) (passes x N) ws) ⊛
+        raw (fact 𝓤 (Plays (now s) (x .session) (tablesIn (x .lists)) ((x .lists) .way) (x .at) (x .left) ((x .lists) .text) t (tablesIn (left-lists x N ws)) ((left-lists x N ws) .way)
+        ((left-lists x N ws) .text))))) (id⊢ 𝓤 _) $ pick ! (λ ws. split ! $ move ! (1 ∷ []) $
         heard ! (Plays (now s) (x .session) (tablesIn (x .lists)) ((x .lists) .way) (x .at) (x .left) ((x .lists) .text) t (tablesIn (left-lists x N ws)) ((left-lists x N ws) .way)
         ((left-lists x N ws) .text)) (λ plays. fsplit ! $ drop ! $ fsplit ! $ drop ! $ fsplit ! $ drop ! $ move ! (1 ∷ []) $ split ! $ move ! (1 ∷ []) $
         peeks ! PL.the-row (Is PL.the-row) (shows 𝓤 H A PL.the-row) t (u ∷ []) (λ is. drop ! $ split ! $ move ! (1 ∷ 2 ∷ 3 ∷ []) $
@@ -830,25 +503,16 @@ module _ {M : Type 1} (𝓤 : URA M) (H : Heap 𝓤) (A : Atoms 𝓤) (W : Given
       Hides ν = Hidden (κs .1 .1) (qs .1 .1) ten ν (y .lists)
 
       module _ (ν : ℕ) (γ : GName) where
+        abbrev passes-print : Args print.signature (κᵢ, ((ν ∷ []), tt))
+        passes-print = (input, (got, (x .written .bytes, (lent-as (ten .text) γ (y .lists .text), (y .played .used, tt)))))
+
         abbrev to-print : Print 𝓤 H A mem run .Ghost
         to-print = (
           (
             (κᵢ, ((ν ∷ []), tt)),
             (qᵢ, (fullShare, tt)),
             tt,
-            (
-              input,
-              (
-                got,
-                (
-                  x .written .bytes,
-                  (
-                    record { ptr = ten .text .ptr; name = γ; now = y .lists .text },
-                    (y .played .used, tt),
-                  ),
-                ),
-              ),
-            ),
+            passes-print,
             (
               v input ∷ [],
               (
@@ -856,12 +520,9 @@ module _ {M : Type 1} (𝓤 : URA M) (H : Heap 𝓤) (A : Atoms 𝓤) (W : Given
                 (
                   vint w64 (x .written .bytes) ∷ [],
                   (
-                    sliceVal (ten .text .ptr) (length (lists₀ .text)) ∷ [],
-                    (
-                      vint w64 (y .played .used) ∷
-                          [],
-                      tt,
-                    ),
+                    sliceVal (ten .text .ptr)
+                        (length (lists₀ .text)) ∷ [],
+                    (vint w64 (y .played .used) ∷ [], tt),
                   ),
                 ),
               ),
@@ -895,24 +556,11 @@ module _ {M : Type 1} (𝓤 : URA M) (H : Heap 𝓤) (A : Atoms 𝓤) (W : Given
       hides-piece ν γ k =
           qed W (raw (Print 𝓤 H A mem run .post (to-print ν γ) k) ∷ ‵ (Hides ν) ∷ []) ∵ updating ! $
           use1 W (later (some (λ (t : Written). ((‵ (flft κᵢ qᵢ) ⊛ (‵ (flft (ν ∷ []) fullShare) ⊛ ‵ ftrue)) ⊛ ‵ (WR.the-row .own t (k ∷ []))) ⊛
-          raw (ensured 𝓤 H A print.ended (print.clauses 𝓤 H A mem run) (κᵢ, ((ν ∷ []), tt)) (
-            input,
-            (
-              got,
-              (
-                x .written .bytes,
-                (
-                  record { ptr = ten .text .ptr; name = γ; now = y .lists .text },
-                  (y .played .used, tt),
-                ),
-              ),
-            ),
-          ) tt t)))) (id⊢ 𝓤 _) $ await ! tt $ pick ! (λ t. split ! $ move ! (1 ∷ []) $
-          use1 W (some (λ (ws : Lasts print.ended (κᵢ, ((ν ∷ []), tt)) (input, (got, (x .written .bytes, (record { ptr = ten .text .ptr; name = γ; now = y .lists .text }, (y .played .used, tt)))))).
-          ‵ (lasts print.ended (κᵢ, ((ν ∷ []), tt)) (input, (got, (x .written .bytes, (record { ptr = ten .text .ptr; name = γ; now = y .lists .text }, (y .played .used, tt))))) ws) ⊛
-          raw (fact 𝓤 ((t .failed ≡ true) ⊎ (t .bytes ≡ x .written .bytes + y .played .used))))) (id⊢ 𝓤 _) $ pick ! (λ ws. split ! $ move ! (1 ∷ []) $
-          heard ! ((t .failed ≡ true) ⊎ (t .bytes ≡ x .written .bytes + y .played .used)) (λ outcome. drop ! $ split ! $ move ! (1 ∷ []) $
-          peeks ! WR.the-row (Is WR.the-row) (shows 𝓤 H A WR.the-row) t (k ∷ []) (λ is. drop ! $ split ! $ move ! (1 ∷ []) $ split ! $ move ! (0 ∷ 3 ∷ []) $
+          raw (ensured 𝓤 H A print.ended (print.clauses 𝓤 H A mem run) (κᵢ, ((ν ∷ []), tt)) (passes-print ν γ) tt t)))) (id⊢ 𝓤 _) $ await ! tt $ pick ! (λ t. split ! $ move ! (1 ∷ []) $
+          use1 W (some (λ (ws : Lasts print.ended (κᵢ, ((ν ∷ []), tt)) (passes-print ν γ)). ‵ (lasts print.ended (κᵢ, ((ν ∷ []), tt)) (passes-print ν γ) ws) ⊛
+          raw (fact 𝓤 (WrittenTo t (x .written .bytes + y .played .used))))) (id⊢ 𝓤 _) $ pick ! (λ ws. split ! $ move ! (1 ∷ []) $
+          heard ! (WrittenTo t (x .written .bytes + y .played .used)) (λ outcome. drop ! $ split ! $ move ! (1 ∷ []) $ peeks ! WR.the-row (Is WR.the-row) (shows 𝓤 H A WR.the-row) t (k ∷ []) (λ is.
+          drop ! $ split ! $ move ! (1 ∷ []) $ split ! $ move ! (0 ∷ 3 ∷ []) $
           use2 W (later (Tables-at (y .lists))) (hides-text (κs .1 .1) (qs .1 .1) ten 𝓤 H A W ν (y .lists) rooms (long-since x m y)) $ await ! tt $ at-once ! $
           show ! (λ (z : Handed (x .written .bytes) (y .played .used) k). sep 𝓤 (mean 𝓤 H A (‵ (flft κᵢ qᵢ) ⊛ ‵ ftrue)) (mean 𝓤 H A (Tables-at (y .lists))))
           (record { written = t; told = told-written t k is; is = is-written t k is; outcome = outcome }) $ move ! (2 ∷ 1 ∷ []) $ join ! $ done !))))
@@ -944,64 +592,8 @@ module _ {M : Type 1} (𝓤 : URA M) (H : Heap 𝓤) (A : Atoms 𝓤) (W : Given
         Tables-at (x .lists) ∷ [])) (Post (WR′.lowered (x .written)))
     exits x failed =
         qed W ((‵ (flft κ₀ q₀) ⊛ ‵ ftrue) ∷ ‵ (Own 𝓤 H A W mem run κ₀ q₀ s) ∷ (‵ (flft κᵢ qᵢ) ⊛ ‵ ftrue) ∷ ‵ OwnRead ∷ Tables-at (x .lists) ∷ []) ∵
-        suffices ! _ (ends-at 𝓤 H A play-all.ended stayed (play-all.clauses 𝓤 H A mem run) W ((κs, qs, tt, a, at), tt) (WR′.lowered (x .written)) (x .written) (
-          tt,
-          (
-            tt,
-            (
-              tt,
-              (
-                tt,
-                (
-                  tt,
-                  (
-                    tt,
-                    (
-                      tt,
-                      (
-                        x .lists .plan,
-                        (
-                          x .lists .g,
-                          (x .lists .rhs, (x .lists .parent, (x .lists .k1, (x .lists .k2, (x .lists .place, (x .lists .list, (x .lists .way, (x .lists .text, tt)))))))),
-                        ),
-                      ),
-                    ),
-                  ),
-                ),
-              ),
-            ),
-          ),
-        ) (
-          tt,
-          (
-            tt,
-            (
-              tt,
-              (
-                tt,
-                (
-                  tt,
-                  (
-                    tt,
-                    (
-                      tt,
-                      (
-                        x .long .plan,
-                        (
-                          x .long .g,
-                          (
-                            x .long .rhs,
-                            (x .long .parent, (x .long .k1, (x .long .k2, (x .long .place, (x .long .list, (x .long .way, (x .long .text, tt))))))),
-                          ),
-                        ),
-                      ),
-                    ),
-                  ),
-                ),
-              ),
-            ),
-          ),
-        )) $ says ! (ends-here x failed) $ move ! (4 ∷ []) $ split ! $
+        suffices ! _ (ends-at 𝓤 H A play-all.ended stayed (play-all.clauses 𝓤 H A mem run) W ((κs, qs, tt, a, at), tt) (WR′.lowered (x .written)) (x .written)
+        (tt, (tt, (tt, (tt, (tt, (tt, (tt, lasts-of (x .lists) tt))))))) (tt, (tt, (tt, (tt, (tt, (tt, (tt, longs (x .long))))))))) $ says ! (ends-here x failed) $ move ! (4 ∷ []) $ split ! $
         move ! (2 ∷ []) $ split ! $ move ! (1 ∷ []) $ drop ! $ move ! (4 ∷ []) $ split ! $ move ! (1 ∷ []) $ drop ! $ move ! (1 ∷ 2 ∷ []) $ join ! $ move ! (1 ∷ 0 ∷ []) $ join ! $ frame ! $
         owned ! usize (Is usize) (uint-makes 𝓤 H A W w64) printed _ (refl, printed-fits) $ fjoin ! $ owned ! SS.the-row (Is SS.the-row) (LL.makes SS.the-type SS′.the-plain 𝓤 H A) st _ st-is $
         fjoin ! $ owned ! usize (Is usize) (uint-makes 𝓤 H A W w64) actions _ (refl, actions-fits) $ fjoin ! $ owned ! usize (Is usize) (uint-makes 𝓤 H A W w64) start _ (refl, start-fits) $ fjoin ! $
@@ -1114,10 +706,9 @@ module _ {M : Type 1} (𝓤 : URA M) (H : Heap 𝓤) (A : Atoms 𝓤) (W : Given
         Q x = anyQ (afterTurn 𝓤 H (Below 𝓤 H A Less Inv x) Left)
 
         -- the turn from `print` on: the piece is printed, and the reader moves to where `play` stopped
-        prints-piece : (x : X) (m : 0 < x .left) {u : Val} (y : Y x u) → ent 𝓤 (⋆ 𝓤 H A (Full x y)) (Wp 𝓤 H C Λ Env-of printing-on (post 𝓤 H (Q x)))
+        prints-piece : (x : X) (m : 0 < x .left) {u : Val} (y : Y x u) → Sq W (Full x y) (runs C Λ Env-of printing-on (Q x))
         unfolding afterTurn
         prints-piece x m y =
-            qed W (Full x y) ∵ exec ! C Λ Env-of printing-on (Q x) $
             -- the text is shared
             assigns ! (addr ! (from ! (fld ! refl (hop ! (look-in ! 36 (sub ! 0 refl (whole !))) (stop !))))) (from ! (stop !)) (init ! 8 refl (tt, tt)) $
             assigns ! (agg ! (and-then ! (load ! (from ! (stop !)) (look ! 8 refl)) (and-then ! (load ! (from ! (fld ! refl (stop !))) (look-in ! 36 (sub ! 1 refl (whole !)))) (no-more !))))
@@ -1152,10 +743,9 @@ module _ {M : Type 1} (𝓤 : URA M) (H : Heap 𝓤) (A : Atoms 𝓤) (W : Given
             again ! Less Inv x (onward x m y z o) (falls-on x m y z o)))))))))
 
         -- the turn after its test: a piece is played
-        plays-piece : (x : X) → 0 < x .left → ent 𝓤 (⋆ 𝓤 H A (Mid x)) (Wp 𝓤 H C Λ Env-of (rest (rest turn-1)) (post 𝓤 H (Q x)))
+        plays-piece : (x : X) → 0 < x .left → Sq W (Mid x) (runs C Λ Env-of (rest (rest turn-1)) (Q x))
         unfolding afterTurn
         plays-piece x m =
-            qed W (Mid x) ∵ exec ! C Λ Env-of (rest (rest turn-1)) (Q x) $
             assigns ! (of-opd ! (load ! (from ! (stop !)) (look ! 35 refl))) (from ! (stop !)) (init ! 29 refl (typed 𝓤 H A W mem run κ₀ q₀ s p (x .at) (x .at-fits))) $
             -- the ten tables are lent again
             assigns ! (addr ! (from ! (fld ! refl (hop ! (look-in ! 45 (sub ! 0 refl (whole !))) (stop !))))) (from ! (stop !)) (init ! 28 refl (tt, tt)) $
@@ -1201,7 +791,7 @@ module _ {M : Type 1} (𝓤 : URA M) (H : Heap 𝓤) (A : Atoms 𝓤) (W : Given
             rewrite ! 31 (λ (z : Val). ‵ (fat fullShare PL′.mir l₂₂ 0 z)) (y .told) refl $ forget ! 30 refl $ forget ! 29 refl $ forget ! 28 refl $ forget ! 27 refl $ forget ! 26 refl $
             forget ! 25 refl $ forget ! 24 refl $ forget ! 23 refl $ forget ! 22 refl $ forget ! 21 refl $ forget ! 20 refl $ forget ! 19 refl $ forget ! 18 refl $ forget ! 17 refl $ forget ! 16 refl $
             forget ! 15 refl $ forget ! 14 refl $ forget ! 13 refl $ forget ! 12 refl $ forget ! 11 refl $ forget ! 10 refl $ forget ! 9 refl $ move ! (0 ∷ 2 ∷ 3 ∷ 4 ∷ 1 ∷ 5 ∷ []) $
-            by ! (prints-piece x m y))))
+            prints-piece x m y)))
 
         -- the loop is left
         leaves : (x : X) → Holds (not (ltb 0 (x .left))) → ent 𝓤 (⋆ 𝓤 H A (Mid x)) (Wp 𝓤 H C Λ Env-of t-6 (atReturn 𝓤 H Env-of Post))
@@ -1228,29 +818,21 @@ module _ {M : Type 1} (𝓤 : URA M) (H : Heap 𝓤) (A : Atoms 𝓤) (W : Given
         unfolding afterTurn
         turn x =
             qed W (Inv x) ∵ exec ! C Λ Env-of turn-1 (Q x) $ assigns ! (bin ! (lit ! tt) (load ! (from ! (stop !)) (look ! 33 refl)) tt) (from ! (stop !)) (init ! 30 refl (tt, tt)) $
-            whiles ! (ltb 0 (x .left)) (load ! (from ! (stop !)) (look ! 30 refl)) (λ held. by ! (plays-piece x (some-left x held))) (λ failed. by ! (leaves x failed))
+            whiles ! (ltb 0 (x .left)) (load ! (from ! (stop !)) (look ! 30 refl)) (λ held. plays-piece x (some-left x held)) (λ failed. by ! (leaves x failed))
 
         goes-round : ent 𝓤 (⋆ 𝓤 H A (Inv start-state)) (Wp 𝓤 H C Λ Env-of t-5 (atReturn 𝓤 H Env-of Post))
         goes-round = loop-rule 𝓤 H (W .laws) 𝓣 Less falls Env-of turn-1 Left (λ x. ⋆ 𝓤 H A (Inv x)) turn start-state
 
         -- the context once the arguments are stored, and the code up to the loop
         abbrev Begin : List (Item 𝓤)
-        Begin = (‵ (flft (κs .0) (qs .0)) ⊛ (‵ (flft (κs .1 .0) (qs .1 .0)) ⊛ (‵ (flft (κs .1 .1 .0) (qs .1 .1 .0)) ⊛ (‵ (flft (κs .1 .1 .1 .0) (qs .1 .1 .1 .0)) ⊛
-            (‵ (flft (κs .1 .1 .1 .1 .0) (qs .1 .1 .1 .1 .0)) ⊛ (‵ (flft (κs .1 .1 .1 .1 .1 .0) (qs .1 .1 .1 .1 .1 .0)) ⊛ (‵ (flft (κs .1 .1 .1 .1 .1 .1 .0) (qs .1 .1 .1 .1 .1 .1 .0)) ⊛
-            (‵ (flft (κs .1 .1 .1 .1 .1 .1 .1 .0) (qs .1 .1 .1 .1 .1 .1 .1 .0)) ⊛ (‵ (flft (κs .1 .1 .1 .1 .1 .1 .1 .1 .0) (qs .1 .1 .1 .1 .1 .1 .1 .1 .0)) ⊛
-            (‵ (flft (κs .1 .1 .1 .1 .1 .1 .1 .1 .1 .0) (qs .1 .1 .1 .1 .1 .1 .1 .1 .1 .0)) ⊛ (‵ (flft (κs .1 .1 .1 .1 .1 .1 .1 .1 .1 .1 .0) (qs .1 .1 .1 .1 .1 .1 .1 .1 .1 .1 .0)) ⊛
-            (‵ (flft (κs .1 .1 .1 .1 .1 .1 .1 .1 .1 .1 .1 .0) (qs .1 .1 .1 .1 .1 .1 .1 .1 .1 .1 .1 .0)) ⊛ ‵ ftrue)))))))))))) ∷ ‵ (owns (ShrSlice (named 0) (κs .0) u8 ∷ usize ∷
-            ShrSlice (named 1) (κs .1 .0) u8 ∷ usize ∷ usize ∷ SS.the-row ∷ usize ∷ MutSlice (named 2) (κs .1 .1 .0) u8 ∷ MutSlice (named 3) (κs .1 .1 .1 .0) u32 ∷
-            MutSlice (named 4) (κs .1 .1 .1 .1 .0) u32 ∷ MutSlice (named 5) (κs .1 .1 .1 .1 .1 .0) u8 ∷ MutSlice (named 6) (κs .1 .1 .1 .1 .1 .1 .0) u32 ∷
-            MutSlice (named 7) (κs .1 .1 .1 .1 .1 .1 .1 .0) u32 ∷ MutSlice (named 8) (κs .1 .1 .1 .1 .1 .1 .1 .1 .0) u16 ∷ MutSlice (named 9) (κs .1 .1 .1 .1 .1 .1 .1 .1 .1 .0) u16 ∷
-            MutSlice (named 10) (κs .1 .1 .1 .1 .1 .1 .1 .1 .1 .1 .0) u16 ∷ MutSlice (named 11) (κs .1 .1 .1 .1 .1 .1 .1 .1 .1 .1 .1 .0) u8 ∷ []) a at) ∷ Deaths ∷ ‵ (froom reader l₄₇ 0) ∷
-            ‵ (froom (shared erased) l₄₆ 0) ∷ ‵ (froom (tyRef erased imm (tyInt w8)) l₄₅ 0) ∷ ‵ (froom (lent erased w8) l₄₄ 0) ∷ ‵ (froom (tyRef erased mut (tyInt w8)) l₄₃ 0) ∷
-            ‵ (froom (lent erased w16) l₄₂ 0) ∷ ‵ (froom (tyRef erased mut (tyInt w16)) l₄₁ 0) ∷ ‵ (froom (lent erased w16) l₄₀ 0) ∷ ‵ (froom (tyRef erased mut (tyInt w16)) l₃₉ 0) ∷
-            ‵ (froom (lent erased w16) l₃₈ 0) ∷ ‵ (froom (tyRef erased mut (tyInt w16)) l₃₇ 0) ∷ ‵ (froom (lent erased w32) l₃₆ 0) ∷ ‵ (froom (tyRef erased mut (tyInt w32)) l₃₅ 0) ∷
-            ‵ (froom (lent erased w32) l₃₄ 0) ∷ ‵ (froom (tyRef erased mut (tyInt w32)) l₃₃ 0) ∷ ‵ (froom (lent erased w8) l₃₂ 0) ∷ ‵ (froom (tyRef erased mut (tyInt w8)) l₃₁ 0) ∷
-            ‵ (froom (lent erased w32) l₃₀ 0) ∷ ‵ (froom (tyRef erased mut (tyInt w32)) l₂₉ 0) ∷ ‵ (froom (lent erased w32) l₂₈ 0) ∷ ‵ (froom (tyRef erased mut (tyInt w32)) l₂₇ 0) ∷
-            ‵ (froom (lent erased w8) l₂₆ 0) ∷ ‵ (froom (tyRef erased mut (tyInt w8)) l₂₅ 0) ∷ ‵ (froom reader l₂₄ 0) ∷ ‵ (froom tyBool l₂₃ 0) ∷ ‵ (froom PL′.mir l₂₂ 0) ∷ ‵ (froom WR′.mir l₂₁ 0) ∷
-            ‵ (froom word l₂₀ 0) ∷ ‵ (froom SS′.mir l₁₉ 0) ∷ ‵ (froom reader l₁₈ 0) ∷ ‵ (fat fullShare (lent (named 11) w8) l₁₇ 0 (sliceVal (ten .text .ptr) (length (lists₀ .text)))) ∷
+        Begin = Tokens ∷ ‵ Owned ∷ Deaths ∷ ‵ (froom reader l₄₇ 0) ∷ ‵ (froom (shared erased) l₄₆ 0) ∷ ‵ (froom (tyRef erased imm (tyInt w8)) l₄₅ 0) ∷ ‵ (froom (lent erased w8) l₄₄ 0) ∷
+            ‵ (froom (tyRef erased mut (tyInt w8)) l₄₃ 0) ∷ ‵ (froom (lent erased w16) l₄₂ 0) ∷ ‵ (froom (tyRef erased mut (tyInt w16)) l₄₁ 0) ∷ ‵ (froom (lent erased w16) l₄₀ 0) ∷
+            ‵ (froom (tyRef erased mut (tyInt w16)) l₃₉ 0) ∷ ‵ (froom (lent erased w16) l₃₈ 0) ∷ ‵ (froom (tyRef erased mut (tyInt w16)) l₃₇ 0) ∷ ‵ (froom (lent erased w32) l₃₆ 0) ∷
+            ‵ (froom (tyRef erased mut (tyInt w32)) l₃₅ 0) ∷ ‵ (froom (lent erased w32) l₃₄ 0) ∷ ‵ (froom (tyRef erased mut (tyInt w32)) l₃₃ 0) ∷ ‵ (froom (lent erased w8) l₃₂ 0) ∷
+            ‵ (froom (tyRef erased mut (tyInt w8)) l₃₁ 0) ∷ ‵ (froom (lent erased w32) l₃₀ 0) ∷ ‵ (froom (tyRef erased mut (tyInt w32)) l₂₉ 0) ∷ ‵ (froom (lent erased w32) l₂₈ 0) ∷
+            ‵ (froom (tyRef erased mut (tyInt w32)) l₂₇ 0) ∷ ‵ (froom (lent erased w8) l₂₆ 0) ∷ ‵ (froom (tyRef erased mut (tyInt w8)) l₂₅ 0) ∷ ‵ (froom reader l₂₄ 0) ∷ ‵ (froom tyBool l₂₃ 0) ∷
+            ‵ (froom PL′.mir l₂₂ 0) ∷ ‵ (froom WR′.mir l₂₁ 0) ∷ ‵ (froom word l₂₀ 0) ∷ ‵ (froom SS′.mir l₁₉ 0) ∷ ‵ (froom reader l₁₈ 0) ∷
+            ‵ (fat fullShare (lent (named 11) w8) l₁₇ 0 (sliceVal (ten .text .ptr) (length (lists₀ .text)))) ∷
             ‵ (fat fullShare (lent (named 10) w16) l₁₆ 0 (sliceVal (ten .way .ptr) (length (lists₀ .way)))) ∷
             ‵ (fat fullShare (lent (named 9) w16) l₁₅ 0 (sliceVal (ten .list .ptr) (length (lists₀ .list)))) ∷ ‵ (fat fullShare (lent (named 8) w16) l₁₄ 0 (sliceVal (ten .place .ptr)
             (length (lists₀ .place)))) ∷ ‵ (fat fullShare (lent (named 7) w32) l₁₃ 0 (sliceVal (ten .k2 .ptr) (length (lists₀ .k2)))) ∷
@@ -1261,9 +843,8 @@ module _ {M : Type 1} (𝓤 : URA M) (H : Heap 𝓤) (A : Atoms 𝓤) (W : Given
             ‵ (fat fullShare SS′.mir l₆ 0 (SS′.lowered st)) ∷ ‵ (fat fullShare word l₅ 0 (vint w64 actions)) ∷ ‵ (fat fullShare word l₄ 0 (vint w64 start)) ∷
             ‵ (fat fullShare (shared (named 1)) l₃ 0 (v s)) ∷ ‵ (fat fullShare word l₂ 0 (vint w64 got)) ∷ ‵ (fat fullShare (shared (named 0)) l₁ 0 (v input)) ∷ ‵ (froom WR′.mir l₀ 0) ∷ []
 
-        begins : ent 𝓤 (⋆ 𝓤 H A Begin) (Wp 𝓤 H C Λ Env-of t-1 (atReturn 𝓤 H Env-of Post))
+        begins : Sq W Begin (runs C Λ Env-of t-1 (atRet Env-of Post))
         begins =
-            qed W Begin ∵ exec ! C Λ Env-of t-1 (atRet Env-of Post) $
             use2 W (((‵ (flft κ₀ q₀) ⊛ ‵ ftrue) ⊛ ‵ (Own 𝓤 H A W mem run κ₀ q₀ s)) ⊛ (((‵ (flft κᵢ qᵢ) ⊛ ‵ ftrue) ⊛ ‵ OwnRead) ⊛ Tables-at lists₀)) holds-all $ split ! $ move ! (1 ∷ []) $ split ! $
             split ! $ move ! (3 ∷ []) $ split ! $
             -- `reading`
@@ -1299,26 +880,11 @@ module _ {M : Type 1} (𝓤 : URA M) (H : Heap 𝓤) (A : Atoms 𝓤) (W : Given
             ‵ (froom (lent (named 3) w32) l₉ 0) ∷ ‵ (fdies (lent (named 3) w32) l₉) ∷ ‵ (froom (lent (named 2) w8) l₈ 0) ∷ ‵ (fdies (lent (named 2) w8) l₈) ∷ ‵ (froom word l₇ 0) ∷ ‵ (fdies word l₇) ∷
             ‵ (froom SS′.mir l₆ 0) ∷ ‵ (fdies SS′.mir l₆) ∷ ‵ (froom word l₅ 0) ∷ ‵ (fdies word l₅) ∷ ‵ (froom word l₄ 0) ∷ ‵ (fdies word l₄) ∷ ‵ (froom (shared (named 1)) l₃ 0) ∷
             ‵ (fdies (shared (named 1)) l₃) ∷ ‵ (froom word l₂ 0) ∷ ‵ (fdies word l₂) ∷ ‵ (froom (shared (named 0)) l₁ 0) ∷ ‵ (fdies (shared (named 0)) l₁) ∷ ‵ (froom WR′.mir l₀ 0) ∷
-            ‵ (fdies WR′.mir l₀) ∷ (‵ (flft (κs .0) (qs .0)) ⊛ (‵ (flft (κs .1 .0) (qs .1 .0)) ⊛ (‵ (flft (κs .1 .1 .0) (qs .1 .1 .0)) ⊛ (‵ (flft (κs .1 .1 .1 .0) (qs .1 .1 .1 .0)) ⊛
-            (‵ (flft (κs .1 .1 .1 .1 .0) (qs .1 .1 .1 .1 .0)) ⊛ (‵ (flft (κs .1 .1 .1 .1 .1 .0) (qs .1 .1 .1 .1 .1 .0)) ⊛ (‵ (flft (κs .1 .1 .1 .1 .1 .1 .0) (qs .1 .1 .1 .1 .1 .1 .0)) ⊛
-            (‵ (flft (κs .1 .1 .1 .1 .1 .1 .1 .0) (qs .1 .1 .1 .1 .1 .1 .1 .0)) ⊛ (‵ (flft (κs .1 .1 .1 .1 .1 .1 .1 .1 .0) (qs .1 .1 .1 .1 .1 .1 .1 .1 .0)) ⊛
-            (‵ (flft (κs .1 .1 .1 .1 .1 .1 .1 .1 .1 .0) (qs .1 .1 .1 .1 .1 .1 .1 .1 .1 .0)) ⊛ (‵ (flft (κs .1 .1 .1 .1 .1 .1 .1 .1 .1 .1 .0) (qs .1 .1 .1 .1 .1 .1 .1 .1 .1 .1 .0)) ⊛
-            (‵ (flft (κs .1 .1 .1 .1 .1 .1 .1 .1 .1 .1 .1 .0) (qs .1 .1 .1 .1 .1 .1 .1 .1 .1 .1 .1 .0)) ⊛ ‵ ftrue)))))))))))) ∷ ‵ (owns (ShrSlice (named 0) (κs .0) u8 ∷ usize ∷
-            ShrSlice (named 1) (κs .1 .0) u8 ∷ usize ∷ usize ∷ SS.the-row ∷ usize ∷ MutSlice (named 2) (κs .1 .1 .0) u8 ∷ MutSlice (named 3) (κs .1 .1 .1 .0) u32 ∷
-            MutSlice (named 4) (κs .1 .1 .1 .1 .0) u32 ∷ MutSlice (named 5) (κs .1 .1 .1 .1 .1 .0) u8 ∷ MutSlice (named 6) (κs .1 .1 .1 .1 .1 .1 .0) u32 ∷
-            MutSlice (named 7) (κs .1 .1 .1 .1 .1 .1 .1 .0) u32 ∷ MutSlice (named 8) (κs .1 .1 .1 .1 .1 .1 .1 .1 .0) u16 ∷ MutSlice (named 9) (κs .1 .1 .1 .1 .1 .1 .1 .1 .1 .0) u16 ∷
-            MutSlice (named 10) (κs .1 .1 .1 .1 .1 .1 .1 .1 .1 .1 .0) u16 ∷ MutSlice (named 11) (κs .1 .1 .1 .1 .1 .1 .1 .1 .1 .1 .1 .0) u8 ∷ []) a at) ∷ []
+            ‵ (fdies WR′.mir l₀) ∷ Tokens ∷ ‵ Owned ∷ []
 
-        stored : ent 𝓤 (⋆ 𝓤 H A Rooms-for) (params 𝓤 H Env-of (v input ∷ vint w64 got ∷ v s ∷ vint w64 start ∷ vint w64 actions ∷ SS′.lowered st ∷ vint w64 printed ∷ sliceVal (ten .plan .ptr)
-            (length (lists₀ .plan)) ∷ sliceVal (ten .g .ptr) (length (lists₀ .g)) ∷ sliceVal (ten .rhs .ptr) (length (lists₀ .rhs)) ∷ sliceVal (ten .parent .ptr) (length (lists₀ .parent)) ∷
-            sliceVal (ten .k1 .ptr) (length (lists₀ .k1)) ∷ sliceVal (ten .k2 .ptr) (length (lists₀ .k2)) ∷ sliceVal (ten .place .ptr) (length (lists₀ .place)) ∷ sliceVal (ten .list .ptr)
-            (length (lists₀ .list)) ∷ sliceVal (ten .way .ptr) (length (lists₀ .way)) ∷ sliceVal (ten .text .ptr) (length (lists₀ .text)) ∷ []) (Wp 𝓤 H C Λ Env-of t-1 (atReturn 𝓤 H Env-of Post)))
+        stored : Sq W Rooms-for (params′ Env-of values (runs C Λ Env-of t-1 (atRet Env-of Post)))
         stored =
-            qed W Rooms-for ∵ storing ! Env-of (v input ∷ vint w64 got ∷ v s ∷ vint w64 start ∷ vint w64 actions ∷ SS′.lowered st ∷ vint w64 printed ∷ sliceVal (ten .plan .ptr)
-            (length (lists₀ .plan)) ∷ sliceVal (ten .g .ptr) (length (lists₀ .g)) ∷ sliceVal (ten .rhs .ptr) (length (lists₀ .rhs)) ∷ sliceVal (ten .parent .ptr) (length (lists₀ .parent)) ∷
-            sliceVal (ten .k1 .ptr) (length (lists₀ .k1)) ∷ sliceVal (ten .k2 .ptr) (length (lists₀ .k2)) ∷ sliceVal (ten .place .ptr) (length (lists₀ .place)) ∷ sliceVal (ten .list .ptr)
-            (length (lists₀ .list)) ∷ sliceVal (ten .way .ptr) (length (lists₀ .way)) ∷ sliceVal (ten .text .ptr) (length (lists₀ .text)) ∷ []) (runs C Λ Env-of t-1 (atRet Env-of Post)) $ params1 ! $
-            pass1 ! (init ! 92 refl (shr-slice-lawful 𝓤 H A W (named 0) κᵢ u8 .typed input (v input ∷ []) read-is .0)) $ pass1 ! (init ! 90 refl (tt, record { fits = got-fits })) $
+            params1 ! $ pass1 ! (init ! 92 refl (shr-slice-lawful 𝓤 H A W (named 0) κᵢ u8 .typed input (v input ∷ []) read-is .0)) $ pass1 ! (init ! 90 refl (tt, record { fits = got-fits })) $
             pass1 ! (init ! 88 refl (shr-slice-lawful 𝓤 H A W (named 1) κ₀ u8 .typed s (v s ∷ []) p .0)) $ pass1 ! (init ! 86 refl (tt, record { fits = start-fits })) $
             pass1 ! (init ! 84 refl (tt, record { fits = actions-fits })) $ pass1 ! (init ! 82 refl (session-typed st st-is)) $ pass1 ! (init ! 80 refl (tt, record { fits = printed-fits })) $
             pass1 ! (init ! 78 refl (tt, (tt, (record { fits = rooms .plan .0 }, tt)))) $ pass1 ! (init ! 76 refl (tt, (tt, (record { fits = rooms .g .0 }, tt)))) $
@@ -1327,66 +893,14 @@ module _ {M : Type 1} (𝓤 : URA M) (H : Heap 𝓤) (A : Atoms 𝓤) (W : Given
             pass1 ! (init ! 66 refl (tt, (tt, (record { fits = rooms .place .0 }, tt)))) $ pass1 ! (init ! 64 refl (tt, (tt, (record { fits = rooms .list .0 }, tt)))) $
             pass1 ! (init ! 62 refl (tt, (tt, (record { fits = rooms .way .0 }, tt)))) $ pass1 ! (init ! 60 refl (tt, (tt, (record { fits = rooms .text .0 }, tt)))) $ pass0 ! $
             move ! (95 ∷ 93 ∷ 91 ∷ 89 ∷ 87 ∷ 85 ∷ 83 ∷ 81 ∷ 79 ∷ 77 ∷ 75 ∷ 73 ∷ 71 ∷ 69 ∷ 67 ∷ 65 ∷ 63 ∷ 61 ∷ 59 ∷ 57 ∷ 55 ∷ 53 ∷ 51 ∷ 49 ∷ 47 ∷ 45 ∷ 43 ∷ 41 ∷ 39 ∷ 37 ∷ 35 ∷ 33 ∷ 31 ∷ 29 ∷ 27 ∷ 25 ∷
-            23 ∷ 21 ∷ 19 ∷ 17 ∷ 15 ∷ 13 ∷ 11 ∷ 9 ∷ 7 ∷ 5 ∷ 3 ∷ 1 ∷ []) $ group ! 48 $ move ! (49 ∷ 50 ∷ 0 ∷ []) $ by ! begins
+            23 ∷ 21 ∷ 19 ∷ 17 ∷ 15 ∷ 13 ∷ 11 ∷ 9 ∷ 7 ∷ 5 ∷ 3 ∷ 1 ∷ []) $ group ! 48 $ move ! (49 ∷ 50 ∷ 0 ∷ []) $ begins
 
-      walk : ent 𝓤 (onEntry 𝓤 H A play-all.signature κs qs a at) (WpFn 𝓤 H C Λ code.function (v input ∷ vint w64 got ∷ v s ∷ vint w64 start ∷ vint w64 actions ∷ SS′.lowered st ∷
-          vint w64 printed ∷ sliceVal (ten .plan .ptr) (length (lists₀ .plan)) ∷ sliceVal (ten .g .ptr) (length (lists₀ .g)) ∷ sliceVal (ten .rhs .ptr) (length (lists₀ .rhs)) ∷
-          sliceVal (ten .parent .ptr) (length (lists₀ .parent)) ∷ sliceVal (ten .k1 .ptr) (length (lists₀ .k1)) ∷ sliceVal (ten .k2 .ptr) (length (lists₀ .k2)) ∷ sliceVal (ten .place .ptr)
-          (length (lists₀ .place)) ∷ sliceVal (ten .list .ptr) (length (lists₀ .list)) ∷ sliceVal (ten .way .ptr) (length (lists₀ .way)) ∷ sliceVal (ten .text .ptr) (length (lists₀ .text)) ∷ []) Post)
+      walk : ent 𝓤 (onEntry 𝓤 H A play-all.signature κs qs a at) (WpFn 𝓤 H C Λ code.function values Post)
       walk =
-          qed W ((‵ (flft (κs .0) (qs .0)) ⊛ (‵ (flft (κs .1 .0) (qs .1 .0)) ⊛ (‵ (flft (κs .1 .1 .0) (qs .1 .1 .0)) ⊛ (‵ (flft (κs .1 .1 .1 .0) (qs .1 .1 .1 .0)) ⊛
-          (‵ (flft (κs .1 .1 .1 .1 .0) (qs .1 .1 .1 .1 .0)) ⊛ (‵ (flft (κs .1 .1 .1 .1 .1 .0) (qs .1 .1 .1 .1 .1 .0)) ⊛ (‵ (flft (κs .1 .1 .1 .1 .1 .1 .0) (qs .1 .1 .1 .1 .1 .1 .0)) ⊛
-          (‵ (flft (κs .1 .1 .1 .1 .1 .1 .1 .0) (qs .1 .1 .1 .1 .1 .1 .1 .0)) ⊛ (‵ (flft (κs .1 .1 .1 .1 .1 .1 .1 .1 .0) (qs .1 .1 .1 .1 .1 .1 .1 .1 .0)) ⊛
-          (‵ (flft (κs .1 .1 .1 .1 .1 .1 .1 .1 .1 .0) (qs .1 .1 .1 .1 .1 .1 .1 .1 .1 .0)) ⊛ (‵ (flft (κs .1 .1 .1 .1 .1 .1 .1 .1 .1 .1 .0) (qs .1 .1 .1 .1 .1 .1 .1 .1 .1 .1 .0)) ⊛
-          (‵ (flft (κs .1 .1 .1 .1 .1 .1 .1 .1 .1 .1 .1 .0) (qs .1 .1 .1 .1 .1 .1 .1 .1 .1 .1 .1 .0)) ⊛ ‵ ftrue)))))))))))) ∷ ‵ (owns (ShrSlice (named 0) (κs .0) u8 ∷ usize ∷
-          ShrSlice (named 1) (κs .1 .0) u8 ∷ usize ∷ usize ∷ SS.the-row ∷ usize ∷ MutSlice (named 2) (κs .1 .1 .0) u8 ∷ MutSlice (named 3) (κs .1 .1 .1 .0) u32 ∷ MutSlice (named 4) (κs .1 .1 .1 .1 .0)
-          u32 ∷ MutSlice (named 5) (κs .1 .1 .1 .1 .1 .0) u8 ∷ MutSlice (named 6) (κs .1 .1 .1 .1 .1 .1 .0) u32 ∷ MutSlice (named 7) (κs .1 .1 .1 .1 .1 .1 .1 .0) u32 ∷
-          MutSlice (named 8) (κs .1 .1 .1 .1 .1 .1 .1 .1 .0) u16 ∷ MutSlice (named 9) (κs .1 .1 .1 .1 .1 .1 .1 .1 .1 .0) u16 ∷ MutSlice (named 10) (κs .1 .1 .1 .1 .1 .1 .1 .1 .1 .1 .0) u16 ∷
-          MutSlice (named 11) (κs .1 .1 .1 .1 .1 .1 .1 .1 .1 .1 .1 .0) u8 ∷ []) a at) ∷ []) ∵ enter ! C Λ code.function (v input ∷ vint w64 got ∷ v s ∷ vint w64 start ∷ vint w64 actions ∷
-          SS′.lowered st ∷ vint w64 printed ∷ sliceVal (ten .plan .ptr) (length (lists₀ .plan)) ∷ sliceVal (ten .g .ptr) (length (lists₀ .g)) ∷ sliceVal (ten .rhs .ptr) (length (lists₀ .rhs)) ∷
-          sliceVal (ten .parent .ptr) (length (lists₀ .parent)) ∷ sliceVal (ten .k1 .ptr) (length (lists₀ .k1)) ∷ sliceVal (ten .k2 .ptr) (length (lists₀ .k2)) ∷ sliceVal (ten .place .ptr)
-          (length (lists₀ .place)) ∷ sliceVal (ten .list .ptr) (length (lists₀ .list)) ∷ sliceVal (ten .way .ptr) (length (lists₀ .way)) ∷ sliceVal (ten .text .ptr) (length (lists₀ .text)) ∷ []) Post $
-          allocates ! (code.function .locals) ((‵ (flft (κs .0) (qs .0)) ⊛ (‵ (flft (κs .1 .0) (qs .1 .0)) ⊛ (‵ (flft (κs .1 .1 .0) (qs .1 .1 .0)) ⊛ (‵ (flft (κs .1 .1 .1 .0) (qs .1 .1 .1 .0)) ⊛
-          (‵ (flft (κs .1 .1 .1 .1 .0) (qs .1 .1 .1 .1 .0)) ⊛ (‵ (flft (κs .1 .1 .1 .1 .1 .0) (qs .1 .1 .1 .1 .1 .0)) ⊛ (‵ (flft (κs .1 .1 .1 .1 .1 .1 .0) (qs .1 .1 .1 .1 .1 .1 .0)) ⊛
-          (‵ (flft (κs .1 .1 .1 .1 .1 .1 .1 .0) (qs .1 .1 .1 .1 .1 .1 .1 .0)) ⊛ (‵ (flft (κs .1 .1 .1 .1 .1 .1 .1 .1 .0) (qs .1 .1 .1 .1 .1 .1 .1 .1 .0)) ⊛
-          (‵ (flft (κs .1 .1 .1 .1 .1 .1 .1 .1 .1 .0) (qs .1 .1 .1 .1 .1 .1 .1 .1 .1 .0)) ⊛ (‵ (flft (κs .1 .1 .1 .1 .1 .1 .1 .1 .1 .1 .0) (qs .1 .1 .1 .1 .1 .1 .1 .1 .1 .1 .0)) ⊛
-          (‵ (flft (κs .1 .1 .1 .1 .1 .1 .1 .1 .1 .1 .1 .0) (qs .1 .1 .1 .1 .1 .1 .1 .1 .1 .1 .1 .0)) ⊛ ‵ ftrue)))))))))))) ∷ ‵ (owns (ShrSlice (named 0) (κs .0) u8 ∷ usize ∷
-          ShrSlice (named 1) (κs .1 .0) u8 ∷ usize ∷ usize ∷ SS.the-row ∷ usize ∷ MutSlice (named 2) (κs .1 .1 .0) u8 ∷ MutSlice (named 3) (κs .1 .1 .1 .0) u32 ∷ MutSlice (named 4) (κs .1 .1 .1 .1 .0)
-          u32 ∷ MutSlice (named 5) (κs .1 .1 .1 .1 .1 .0) u8 ∷ MutSlice (named 6) (κs .1 .1 .1 .1 .1 .1 .0) u32 ∷ MutSlice (named 7) (κs .1 .1 .1 .1 .1 .1 .1 .0) u32 ∷
-          MutSlice (named 8) (κs .1 .1 .1 .1 .1 .1 .1 .1 .0) u16 ∷ MutSlice (named 9) (κs .1 .1 .1 .1 .1 .1 .1 .1 .1 .0) u16 ∷ MutSlice (named 10) (κs .1 .1 .1 .1 .1 .1 .1 .1 .1 .1 .0) u16 ∷
-          MutSlice (named 11) (κs .1 .1 .1 .1 .1 .1 .1 .1 .1 .1 .1 .0) u8 ∷ []) a at) ∷ []) (λ E. params′ E (v input ∷ vint w64 got ∷ v s ∷ vint w64 start ∷ vint w64 actions ∷ SS′.lowered st ∷
-          vint w64 printed ∷ sliceVal (ten .plan .ptr) (length (lists₀ .plan)) ∷ sliceVal (ten .g .ptr) (length (lists₀ .g)) ∷ sliceVal (ten .rhs .ptr) (length (lists₀ .rhs)) ∷
-          sliceVal (ten .parent .ptr) (length (lists₀ .parent)) ∷ sliceVal (ten .k1 .ptr) (length (lists₀ .k1)) ∷ sliceVal (ten .k2 .ptr) (length (lists₀ .k2)) ∷ sliceVal (ten .place .ptr)
-          (length (lists₀ .place)) ∷ sliceVal (ten .list .ptr) (length (lists₀ .list)) ∷ sliceVal (ten .way .ptr) (length (lists₀ .way)) ∷ sliceVal (ten .text .ptr) (length (lists₀ .text)) ∷ [])
-          (runs C Λ E (code.function .body) (atRet E Post)))
-          (λ bs. by ! (stored (bs .0) (bs .1 .0) (bs .1 .1 .0) (bs .1 .1 .1 .0) (bs .1 .1 .1 .1 .0) (bs .1 .1 .1 .1 .1 .0) (bs .1 .1 .1 .1 .1 .1 .0) (bs .1 .1 .1 .1 .1 .1 .1 .0)
-          (bs .1 .1 .1 .1 .1 .1 .1 .1 .0) (bs .1 .1 .1 .1 .1 .1 .1 .1 .1 .0) (bs .1 .1 .1 .1 .1 .1 .1 .1 .1 .1 .0) (bs .1 .1 .1 .1 .1 .1 .1 .1 .1 .1 .1 .0) (bs .1 .1 .1 .1 .1 .1 .1 .1 .1 .1 .1 .1 .0)
-          (bs .1 .1 .1 .1 .1 .1 .1 .1 .1 .1 .1 .1 .1 .0) (bs .1 .1 .1 .1 .1 .1 .1 .1 .1 .1 .1 .1 .1 .1 .0) (bs .1 .1 .1 .1 .1 .1 .1 .1 .1 .1 .1 .1 .1 .1 .1 .0)
-          (bs .1 .1 .1 .1 .1 .1 .1 .1 .1 .1 .1 .1 .1 .1 .1 .1 .0) (bs .1 .1 .1 .1 .1 .1 .1 .1 .1 .1 .1 .1 .1 .1 .1 .1 .1 .0) (bs .1 .1 .1 .1 .1 .1 .1 .1 .1 .1 .1 .1 .1 .1 .1 .1 .1 .1 .0)
-          (bs .1 .1 .1 .1 .1 .1 .1 .1 .1 .1 .1 .1 .1 .1 .1 .1 .1 .1 .1 .0) (bs .1 .1 .1 .1 .1 .1 .1 .1 .1 .1 .1 .1 .1 .1 .1 .1 .1 .1 .1 .1 .0)
-          (bs .1 .1 .1 .1 .1 .1 .1 .1 .1 .1 .1 .1 .1 .1 .1 .1 .1 .1 .1 .1 .1 .0) (bs .1 .1 .1 .1 .1 .1 .1 .1 .1 .1 .1 .1 .1 .1 .1 .1 .1 .1 .1 .1 .1 .1 .0)
-          (bs .1 .1 .1 .1 .1 .1 .1 .1 .1 .1 .1 .1 .1 .1 .1 .1 .1 .1 .1 .1 .1 .1 .1 .0) (bs .1 .1 .1 .1 .1 .1 .1 .1 .1 .1 .1 .1 .1 .1 .1 .1 .1 .1 .1 .1 .1 .1 .1 .1 .0)
-          (bs .1 .1 .1 .1 .1 .1 .1 .1 .1 .1 .1 .1 .1 .1 .1 .1 .1 .1 .1 .1 .1 .1 .1 .1 .1 .0) (bs .1 .1 .1 .1 .1 .1 .1 .1 .1 .1 .1 .1 .1 .1 .1 .1 .1 .1 .1 .1 .1 .1 .1 .1 .1 .1 .0)
-          (bs .1 .1 .1 .1 .1 .1 .1 .1 .1 .1 .1 .1 .1 .1 .1 .1 .1 .1 .1 .1 .1 .1 .1 .1 .1 .1 .1 .0) (bs .1 .1 .1 .1 .1 .1 .1 .1 .1 .1 .1 .1 .1 .1 .1 .1 .1 .1 .1 .1 .1 .1 .1 .1 .1 .1 .1 .1 .0)
-          (bs .1 .1 .1 .1 .1 .1 .1 .1 .1 .1 .1 .1 .1 .1 .1 .1 .1 .1 .1 .1 .1 .1 .1 .1 .1 .1 .1 .1 .1 .0)
-          (bs .1 .1 .1 .1 .1 .1 .1 .1 .1 .1 .1 .1 .1 .1 .1 .1 .1 .1 .1 .1 .1 .1 .1 .1 .1 .1 .1 .1 .1 .1 .0)
-          (bs .1 .1 .1 .1 .1 .1 .1 .1 .1 .1 .1 .1 .1 .1 .1 .1 .1 .1 .1 .1 .1 .1 .1 .1 .1 .1 .1 .1 .1 .1 .1 .0)
-          (bs .1 .1 .1 .1 .1 .1 .1 .1 .1 .1 .1 .1 .1 .1 .1 .1 .1 .1 .1 .1 .1 .1 .1 .1 .1 .1 .1 .1 .1 .1 .1 .1 .0)
-          (bs .1 .1 .1 .1 .1 .1 .1 .1 .1 .1 .1 .1 .1 .1 .1 .1 .1 .1 .1 .1 .1 .1 .1 .1 .1 .1 .1 .1 .1 .1 .1 .1 .1 .0)
-          (bs .1 .1 .1 .1 .1 .1 .1 .1 .1 .1 .1 .1 .1 .1 .1 .1 .1 .1 .1 .1 .1 .1 .1 .1 .1 .1 .1 .1 .1 .1 .1 .1 .1 .1 .0)
-          (bs .1 .1 .1 .1 .1 .1 .1 .1 .1 .1 .1 .1 .1 .1 .1 .1 .1 .1 .1 .1 .1 .1 .1 .1 .1 .1 .1 .1 .1 .1 .1 .1 .1 .1 .1 .0)
-          (bs .1 .1 .1 .1 .1 .1 .1 .1 .1 .1 .1 .1 .1 .1 .1 .1 .1 .1 .1 .1 .1 .1 .1 .1 .1 .1 .1 .1 .1 .1 .1 .1 .1 .1 .1 .1 .0)
-          (bs .1 .1 .1 .1 .1 .1 .1 .1 .1 .1 .1 .1 .1 .1 .1 .1 .1 .1 .1 .1 .1 .1 .1 .1 .1 .1 .1 .1 .1 .1 .1 .1 .1 .1 .1 .1 .1 .0)
-          (bs .1 .1 .1 .1 .1 .1 .1 .1 .1 .1 .1 .1 .1 .1 .1 .1 .1 .1 .1 .1 .1 .1 .1 .1 .1 .1 .1 .1 .1 .1 .1 .1 .1 .1 .1 .1 .1 .1 .0)
-          (bs .1 .1 .1 .1 .1 .1 .1 .1 .1 .1 .1 .1 .1 .1 .1 .1 .1 .1 .1 .1 .1 .1 .1 .1 .1 .1 .1 .1 .1 .1 .1 .1 .1 .1 .1 .1 .1 .1 .1 .0)
-          (bs .1 .1 .1 .1 .1 .1 .1 .1 .1 .1 .1 .1 .1 .1 .1 .1 .1 .1 .1 .1 .1 .1 .1 .1 .1 .1 .1 .1 .1 .1 .1 .1 .1 .1 .1 .1 .1 .1 .1 .1 .0)
-          (bs .1 .1 .1 .1 .1 .1 .1 .1 .1 .1 .1 .1 .1 .1 .1 .1 .1 .1 .1 .1 .1 .1 .1 .1 .1 .1 .1 .1 .1 .1 .1 .1 .1 .1 .1 .1 .1 .1 .1 .1 .1 .0)
-          (bs .1 .1 .1 .1 .1 .1 .1 .1 .1 .1 .1 .1 .1 .1 .1 .1 .1 .1 .1 .1 .1 .1 .1 .1 .1 .1 .1 .1 .1 .1 .1 .1 .1 .1 .1 .1 .1 .1 .1 .1 .1 .1 .0)
-          (bs .1 .1 .1 .1 .1 .1 .1 .1 .1 .1 .1 .1 .1 .1 .1 .1 .1 .1 .1 .1 .1 .1 .1 .1 .1 .1 .1 .1 .1 .1 .1 .1 .1 .1 .1 .1 .1 .1 .1 .1 .1 .1 .1 .0)
-          (bs .1 .1 .1 .1 .1 .1 .1 .1 .1 .1 .1 .1 .1 .1 .1 .1 .1 .1 .1 .1 .1 .1 .1 .1 .1 .1 .1 .1 .1 .1 .1 .1 .1 .1 .1 .1 .1 .1 .1 .1 .1 .1 .1 .1 .0)
-          (bs .1 .1 .1 .1 .1 .1 .1 .1 .1 .1 .1 .1 .1 .1 .1 .1 .1 .1 .1 .1 .1 .1 .1 .1 .1 .1 .1 .1 .1 .1 .1 .1 .1 .1 .1 .1 .1 .1 .1 .1 .1 .1 .1 .1 .1 .0)
-          (bs .1 .1 .1 .1 .1 .1 .1 .1 .1 .1 .1 .1 .1 .1 .1 .1 .1 .1 .1 .1 .1 .1 .1 .1 .1 .1 .1 .1 .1 .1 .1 .1 .1 .1 .1 .1 .1 .1 .1 .1 .1 .1 .1 .1 .1 .1 .0)
-          (bs .1 .1 .1 .1 .1 .1 .1 .1 .1 .1 .1 .1 .1 .1 .1 .1 .1 .1 .1 .1 .1 .1 .1 .1 .1 .1 .1 .1 .1 .1 .1 .1 .1 .1 .1 .1 .1 .1 .1 .1 .1 .1 .1 .1 .1 .1 .1 .0)))
+          qed W (Tokens ∷ ‵ Owned ∷ []) ∵ enter ! C Λ code.function values Post $
+          allocates ! (code.function .locals) (Tokens ∷ ‵ Owned ∷ []) (λ E. params′ E values (runs C Λ E (code.function .body) (atRet E Post)))
+          (λ l₀ l₁ l₂ l₃ l₄ l₅ l₆ l₇ l₈ l₉ l₁₀ l₁₁ l₁₂ l₁₃ l₁₄ l₁₅ l₁₆ l₁₇ l₁₈ l₁₉ l₂₀ l₂₁ l₂₂ l₂₃ l₂₄ l₂₅ l₂₆ l₂₇ l₂₈ l₂₉ l₃₀ l₃₁ l₃₂ l₃₃ l₃₄ l₃₅ l₃₆ l₃₇ l₃₈ l₃₉ l₄₀ l₄₁ l₄₂ l₄₃ l₄₄ l₄₅ l₄₆ l₄₇.
+          stored l₀ l₁ l₂ l₃ l₄ l₅ l₆ l₇ l₈ l₉ l₁₀ l₁₁ l₁₂ l₁₃ l₁₄ l₁₅ l₁₆ l₁₇ l₁₈ l₁₉ l₂₀ l₂₁ l₂₂ l₂₃ l₂₄ l₂₅ l₂₆ l₂₇ l₂₈ l₂₉ l₃₀ l₃₁ l₃₂ l₃₃ l₃₄ l₃₅ l₃₆ l₃₇ l₃₈ l₃₉ l₄₀ l₄₁ l₄₂ l₄₃ l₄₄ l₄₅ l₄₆ l₄₇)
 
 module _ {M : Type 1} (𝓤 : URA M) (H : Heap 𝓤) (A : Atoms 𝓤) (W : Given 𝓤 H A) (mem : Memory → SProp 𝓤) (run : Routine → Fun 𝓤) (𝓣 : RunTables 𝓤 H)
     (known-reading : Triple 𝓤 (𝓣 .C #drill-file·reading) (Reading 𝓤 H A mem run)) (known-moved-to : Triple 𝓤 (𝓣 .C #drill-file·moved-to) (MovedTo 𝓤 H A mem run))
@@ -1465,16 +979,13 @@ module _ {M : Type 1} (𝓤 : URA M) (H : Heap 𝓤) (A : Atoms 𝓤) (W : Given
         plan = are .1 .1 .1 .1 .1 .1 .1 .0 .0 .1;
         g = are .1 .1 .1 .1 .1 .1 .1 .1 .0 .0 .1;
         rhs = are .1 .1 .1 .1 .1 .1 .1 .1 .1 .0 .0 .1;
-        parent
-            = are .1 .1 .1 .1 .1 .1 .1 .1 .1 .1 .0 .0 .1;
+        parent = are .1 .1 .1 .1 .1 .1 .1 .1 .1 .1 .0 .0 .1;
         k1 = are .1 .1 .1 .1 .1 .1 .1 .1 .1 .1 .1 .0 .0 .1;
         k2 = are .1 .1 .1 .1 .1 .1 .1 .1 .1 .1 .1 .1 .0 .0 .1;
-        place
-            = are .1 .1 .1 .1 .1 .1 .1 .1 .1 .1 .1 .1 .1 .0 .0 .1;
+        place = are .1 .1 .1 .1 .1 .1 .1 .1 .1 .1 .1 .1 .1 .0 .0 .1;
         list = are .1 .1 .1 .1 .1 .1 .1 .1 .1 .1 .1 .1 .1 .1 .0 .0 .1;
         way = are .1 .1 .1 .1 .1 .1 .1 .1 .1 .1 .1 .1 .1 .1 .1 .0 .0 .1;
-        text
-            = are .1 .1 .1 .1 .1 .1 .1 .1 .1 .1 .1 .1 .1 .1 .1 .1 .0 .0 .1;
+        text = are .1 .1 .1 .1 .1 .1 .1 .1 .1 .1 .1 .1 .1 .1 .1 .1 .0 .0 .1;
       }) pre
       𝓣 (fmOf 𝓤 H (W .laws) 𝓣) known-reading known-moved-to known-play known-print known-left))
 
