@@ -16,7 +16,7 @@ use Rattle.tables.specs.declared.Fault.{Fault}
 use Rattle.tables.specs.declared.Fault.the-variants.{Nowhere, InRecord, InCell, InMove}
 use Rattle.tables.specs.Lent.{Tables, Fits, cells}
 use Rattle.tables.specs.Sound.{Sound}
-use Rattle.tables.specs.Rules.{AloneIn, WayIn, CellRules, RulesBefore, FirstFault, nowhere, in-record, in-cell, in-move}
+use Rattle.tables.specs.Rules.{AloneIn, WayIn, RulesBefore, FirstFault, nowhere, in-record, in-cell, in-move}
 use Rattle.tables.proofs.Fault.{the-type}
 use Rattle.tables.proofs.SoundLaws.{Words, sound-of-rules, numbers-rule, cell-rules}
 
