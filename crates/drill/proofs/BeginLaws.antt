@@ -87,17 +87,17 @@ module _ (file : List ℕ) {t : Tables} (fits : Fits (cellsIn file) t) (formed-r
         (number-opens (formed file formed-right .size) fits-planned (ap (λ y. openNumber y (trailerOf file .hunter) (trailerOf file .target)) planned ∙ sym (file-number file formed-right) ∙ z))
 
     -- .. which leaves what the definition says.
-    pub starts : {x : Trailer} {s : Session} {t′ : Tables} {text : List ℕ} → x ≡ trailerOf file → fileNumber file ≡ 0
+    pub starts : {x : Trailer} {s : Session} {t′ : Tables} {text : List ℕ} {r : Played} → x ≡ trailerOf file → fileNumber file ≡ 0
         → (s ≡ begun-record (x .width) (x .height) (x .hunter) (x .target)) × Opened (x .width) (x .height) (x .hunter) (x .target) (withPlan t plan) t′
-        → Starts file text (record { session = s; at = x .offset; left = x .actions; used = 0 }) t′ text
-    starts {x} {s} {t′} e z d = record {
+        → r ≡ record { session = s; at = x .offset; left = x .actions; used = 0 } → Starts file text r t′ text
+    starts {x} {s} {t′} {text} e z d is = subst (λ (r : Played). Starts file text r t′ text) (sym is) (record {
       sound = subst (λ y. Sound y t′) (sym (d .0)) (fresh-sound (openable e z) (d .1));
       after = left (subst (λ (y : Trailer). (s ≡ begun-record (y .width) (y .height) (y .hunter) (y .target)) × Opened (y .width) (y .height) (y .hunter) (y .target) (withPlan t plan) t′) e d);
       place = ap (λ (y : Trailer). y .offset) e;
       all-left = ap (λ (y : Trailer). y .actions) e;
       unused = refl;
       blank = refl;
-    }
+    })
       where
         w : ℕ
         w = trailerOf file .width

@@ -107,6 +107,18 @@ fn refuse(number: u8, text: &mut [u8]) -> Played
     }
 }
 
+// A file just opened: all of its actions are left to play, and nothing is used of the text.
+fn opened(session: Session, t: drill_file::Trailer) -> Played
+    ensures { λ r. ⌜ r ≡ record { session = session; at = t .offset; left = t .actions; used = 0 } ⌝ }
+{
+    Played {
+        session,
+        at: t.offset,
+        left: t.actions,
+        used: 0,
+    }
+}
+
 // Opens a file, whatever it is, or refuses it. A refused file is refused before anything but its line is written.
 pub fn begin(
     file: &[u8],
@@ -143,12 +155,7 @@ pub fn begin(
         place,
         list,
     );
-    Played {
-        session,
-        at: t.offset,
-        left: t.actions,
-        used: 0,
-    }
+    opened(session, t)
 }
 
 // Puts the line of a call's reply.

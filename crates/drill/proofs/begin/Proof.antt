@@ -1,5 +1,6 @@
 -- `drill::begin` refuses a file by its number or opens it (`begins-refused`, `begins-opened`); a fresh start on the copied plan leaves what the definition says (`starts`).
 use mathlib.Core.Path.{sym, _∙_}
+use native.Mathlib.Omega.{arith}
 use borrow.Author.Needs.{needs}
 use Rattle.drill.proofs.NumberLaws.{file-formed}
 use Rattle.drill.proofs.BeginLaws.{plan-in-file, trailer-in-file, openable, starts, begins-refused, begins-opened}
@@ -63,8 +64,13 @@ begin-requires c κs =
     let z = sym (asked .file-refusal .ensures) ∙ copied .before .before .if1 .left in
     openable _ (start .pre .fits) (file-formed _ z) (copied .copy-plan .ensures) (read .trailer-of .ensures) z
 
+opened-requires : tie.Need-opened-requires
+opened-requires c κs = search needs
+
 same-length-10 : tie.Need-same-length-10
-same-length-10 c = search needs
+same-length-10 c =
+    let begun = c .before .before .before .before .before .before .before .before .before .before .before .before .before .before .before in
+    omega (arith, begun .before .before .before .before .before .before .before .before .before .before .before .plan)
 
 same-length-11 : tie.Need-same-length-11
 same-length-11 c = search needs
@@ -89,13 +95,13 @@ same-length-17 c = search needs
 
 returns-2 : tie.Need-returns-2
 returns-2 c =
-    let begun = c .before .before .before .before .before .before .before .before .before .before .before .before .before .before in
+    let begun = c .before .before .before .before .before .before .before .before .before .before .before .before .before .before .before in
     let read = begun .before .before .before .before .before .before .before .before .before in
     let copied = read .before .before .before in
     let asked = copied .before .before .before in
     let start = asked .before .before .before .before .before .before .before .before .before .before .before .before .before .before .before .before .before .before .before in
     let z = sym (asked .file-refusal .ensures) ∙ copied .before .before .if1 .left in
-    begins-opened z (starts _ (start .pre .fits) (file-formed _ z) (copied .copy-plan .ensures) (read .trailer-of .ensures) z (begun .begin .ensures))
+    begins-opened z (starts _ (start .pre .fits) (file-formed _ z) (copied .copy-plan .ensures) (read .trailer-of .ensures) z (begun .begin .ensures) (c .opened .ensures))
 
 pub begin-spec : {M : Type 1} → statement M
 begin-spec =
@@ -116,6 +122,7 @@ begin-spec =
     copy-plan-requires
     trailer-of-requires
     begin-requires
+    opened-requires
     same-length-10
     same-length-11
     same-length-12
