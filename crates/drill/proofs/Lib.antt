@@ -1,5 +1,4 @@
 pub mod NumberLaws
-pub mod BeginLaws
 pub mod PlayLaws
 pub mod PieceLaws
 pub mod LengthLaws

@@ -1,7 +1,7 @@
 -- What begin and play leave in the text, one piece behind the other, is the output of the file.
 use mathlib.Core.Path.{_≡_, sym, ap, subst, _∙_}
 use mathlib.Core.List.{List, _++_, append-nil}
-use Prim.Native.Nat.{ℕ, _+_, _*_, _≤_, _<_}
+use Prim.Native.Nat.{ℕ, _+_, _*_, _-_, _≤_, _<_}
 use native.Mathlib.Omega.{arith}
 use native.Mathlib.Decide.{ℕ-discrete}
 use lib.ListN.{length, take, drop, length-take, length-drop, length-append}
@@ -22,6 +22,10 @@ use Rattle.drill.proofs.NumberLaws.{formed, file-formed, refused-prints
 use Rattle.drill.proofs.PlayLaws.{actions-more, played-more}
 
 -- ---- a piece
+
+-- The part of a list from its start on.
+pub from-start : (n : ℕ) (l : List ℕ) → take (n - 0) (drop 0 l) ≡ take n l
+from-start n l = let e : n - 0 ≡ n = omega arith in ap (λ k. take k l) e
 
 -- A text put at the front is the first bytes of the buffer.
 front : {b a x : List ℕ} {r : ℕ} → Put b 0 x r a → length (take r a) ≡ r

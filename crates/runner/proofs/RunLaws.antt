@@ -15,8 +15,7 @@ use Rattle.drill_file.proofs.FileLaws.{cells-few}
 use Rattle.drill.specs.declared.Played.{Played}
 use Rattle.drill.specs.Output.{output}
 use Rattle.drill.specs.Promises.{Playing, Begins, NextPiece}
-use Rattle.drill.proofs.BeginLaws.{from-start}
-use Rattle.drill.proofs.PieceLaws.{all-printed, first-piece, first-printed, begun-long, begun-used, begun-playing}
+use Rattle.drill.proofs.PieceLaws.{from-start, all-printed, first-piece, first-printed, begun-long, begun-used, begun-playing}
 use Rattle.printing.specs.declared.Written.{Written}
 use Rattle.printing.specs.Promises.{Piece, Printing, WrittenTo}
 use Rattle.runner.specs.Own.{Own, Running, mostCells}

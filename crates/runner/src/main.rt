@@ -1,7 +1,7 @@
 // The drill runner: reads one drill file and prints a line for each search. What it hands to each write is the next piece of the output of what it read; only that the bytes cross is outside.
-use drill;
 use drill_file;
 use libc::STDIN_FILENO;
+use opening;
 use printing;
 ghost use Prim.Native.Nat.{_+_, _≤_};
 ghost use lib.ListN.{length, take};
@@ -37,7 +37,7 @@ fn run(
     requires { ⌜ Running (now input) got (now file) (given plan g rhs parent k1 k2 place list) (now way) (now text) ⌝ }
     ensures { λ r. ⌜ WrittenTo r (length (output (now (file .entry)))) ⌝ }
 {
-    let begun = drill::begin(file, plan, g, rhs, parent, k1, k2, place, list, text);
+    let begun = opening::begin(file, plan, g, rhs, parent, k1, k2, place, list, text);
     let first = print_first(input, got, text, begun.used);
     if first.failed {
         return first;

@@ -5,7 +5,7 @@ use native.Mathlib.Omega.{arith}
 use lib.ListN.{take}
 use lib.Seq.{length-take-le}
 use Rattle.drill.specs.Promises.{NextPiece}
-use Rattle.drill.proofs.BeginLaws.{from-start}
+use Rattle.drill.proofs.PieceLaws.{from-start}
 use Rattle.drill.proofs.LengthLaws.{piece-counted}
 use borrow.Author.Needs.{needs}
 use Rattle.printing.proofs.print.Statement.{statement}

@@ -3,7 +3,7 @@ use mathlib.Core.Path.{subst}
 use native.Mathlib.Omega.{arith}
 use lib.ListN.{length}
 use Rattle.drill.specs.Output.{output}
-use Rattle.drill.proofs.BeginLaws.{from-start}
+use Rattle.drill.proofs.PieceLaws.{from-start}
 use Rattle.printing.specs.Promises.{WrittenTo}
 use Rattle.runner.proofs.RunLaws.{parts-room, running}
 use borrow.Author.Needs.{needs}

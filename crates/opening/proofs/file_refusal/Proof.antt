@@ -1,11 +1,12 @@
--- `drill::file_refusal` finds the file's number: that of its form, else that of the first of open's rules that its own bytes break (`number-found`).
+-- `opening::file_refusal` finds the file's number: that of its form, else that of the first of open's rules that its own bytes break (`number-found`).
 use mathlib.Core.Path.{sym, _∙_}
 use lib.ListN.{length}
 use borrow.Author.Needs.{needs}
 use Rattle.drill.proofs.NumberLaws.{form-refused}
-use Rattle.drill.proofs.BeginLaws.{from-start, plan-in-file, trailer-in-file, number-found}
-use Rattle.drill.proofs.file_refusal.Statement.{statement}
-use Rattle.drill.proofs.file_refusal.Tie as tie
+use Rattle.drill.proofs.PieceLaws.{from-start}
+use Rattle.opening.proofs.BeginLaws.{plan-in-file, trailer-in-file, number-found}
+use Rattle.opening.proofs.file_refusal.Statement.{statement}
+use Rattle.opening.proofs.file_refusal.Tie as tie
 
 form-requires : tie.Need-form-requires
 form-requires c κs = search needs

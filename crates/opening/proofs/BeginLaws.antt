@@ -2,10 +2,10 @@
 use mathlib.Core.Path.{_≡_, refl, sym, ap, subst, _∙_}
 use mathlib.Core.Logic.{_≢_}
 use mathlib.Core.List.{List}
-use Prim.Native.Nat.{ℕ, _+_, _*_, _-_, _≤_, _<_}
+use Prim.Native.Nat.{ℕ, _+_, _*_, _≤_, _<_}
 use native.Mathlib.Numerals.{add-one}
 use native.Mathlib.Omega.{arith}
-use lib.ListN.{length, take, drop, set, getD}
+use lib.ListN.{length, take, set, getD}
 use lib.Seq.{take-suc, take-length, length-take-le}
 use Rattle.method.specs.Session as method-session
 use Rattle.plan.specs.Costs.{planOf}
@@ -37,10 +37,6 @@ copied-more {b} {a} file i lb lf p =
 -- All of it is copied.
 pub copied-all : {b a : List ℕ} (file : List ℕ) (i : ℕ) → i ≡ length b → Put b 0 (take i file) i a → a ≡ take (length b) file
 copied-all {b} {a} file i e p = sym (ap (λ k. take k a) (e ∙ sym (p .long)) ∙ take-length a) ∙ p .stands ∙ ap (λ k. take k file) e
-
--- The part of a list from its start on.
-pub from-start : (n : ℕ) (l : List ℕ) → take (n - 0) (drop 0 l) ≡ take n l
-from-start n l = let e : n - 0 ≡ n = omega arith in ap (λ k. take k l) e
 
 -- ---- a file of right form, on tables of its size
 

@@ -1,13 +1,13 @@
--- `drill::copy_plan` copies the file's first bytes. The loop's invariant: the first i are copied.
+-- `opening::copy_plan` copies the file's first bytes. The loop's invariant: the first i are copied.
 use Rattle.lines.specs.Put.{Put}
 use lib.ListN.{length, take}
 use native.Mathlib.Omega.{arith}
 use Prim.Native.Nat.{_-_, _≤_}
 use borrow.Author.Needs.{needs}
 use Rattle.lines.proofs.PutLaws.{put-nothing}
-use Rattle.drill.proofs.BeginLaws.{copied-more, copied-all}
-use Rattle.drill.proofs.copy_plan.Statement.{statement}
-use Rattle.drill.proofs.copy_plan.Tie as tie
+use Rattle.opening.proofs.BeginLaws.{copied-more, copied-all}
+use Rattle.opening.proofs.copy_plan.Statement.{statement}
+use Rattle.opening.proofs.copy_plan.Tie as tie
 
 abbrev Inv-loop : tie.InvT-loop
 Inv-loop file plan₀ i₀ plan i = (i ≤ length plan₀) × Put plan₀ 0 (take i file) i plan

@@ -1,11 +1,11 @@
--- `drill::begin` refuses a file by its number or opens it (`begins-refused`, `begins-opened`); a fresh start on the copied plan leaves what the definition says (`starts`).
+-- `opening::begin` refuses a file by its number or opens it (`begins-refused`, `begins-opened`); a fresh start on the copied plan leaves what the definition says (`starts`).
 use mathlib.Core.Path.{sym, _∙_}
 use native.Mathlib.Omega.{arith}
 use borrow.Author.Needs.{needs}
 use Rattle.drill.proofs.NumberLaws.{file-formed}
-use Rattle.drill.proofs.BeginLaws.{plan-in-file, trailer-in-file, openable, starts, begins-refused, begins-opened}
-use Rattle.drill.proofs.begin.Statement.{statement}
-use Rattle.drill.proofs.begin.Tie as tie
+use Rattle.opening.proofs.BeginLaws.{plan-in-file, trailer-in-file, openable, starts, begins-refused, begins-opened}
+use Rattle.opening.proofs.begin.Statement.{statement}
+use Rattle.opening.proofs.begin.Tie as tie
 
 file-refusal-requires : tie.Need-file-refusal-requires
 file-refusal-requires c κs = search needs
