@@ -18,9 +18,8 @@ use Rattle.tables.specs.Sound.{Sound}
 use Rattle.choices.specs.Effects.{Touches}
 use Rattle.session.specs.declared.Answer.the-variants.{Done}
 use Rattle.session.specs.declared.Reply.{Reply}
-use Rattle.session.specs.Refusals.{answered}
 use Rattle.session.specs.Promises.{Alike}
-use Rattle.session.proofs.RefusalLaws.{answer-is}
+use Rattle.session.proofs.RefusalLaws.{answered, answer-is}
 use Rattle.session.proofs.Theorems.{done-zero, same-reply, alike, alike-same}
 use Rattle.change.specs.Refusals.{Workable}
 use Rattle.change.specs.Promise.{counted, withPlan, replanned, enteredCell, backCode, oldCost, WorkedIn, Changes}

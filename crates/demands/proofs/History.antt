@@ -17,8 +17,8 @@ use Rattle.tables.specs.Lent.{Tables, cells, floor, graph, session, core}
 use Rattle.tables.specs.Sound.{Sound}
 use Rattle.session.specs.declared.Answer.the-variants.{Done}
 use Rattle.session.specs.declared.Reply.{Reply}
-use Rattle.session.specs.Refusals.{answered}
 use Rattle.session.specs.Promises.{Opens}
+use Rattle.session.proofs.RefusalLaws.{answered}
 use Rattle.session.proofs.Theorems.{open-answer, opened-sound, hunter-placed-sound, target-placed-sound}
 use Rattle.change.proofs.Theorems.{change-keeps-sound}
 use Rattle.search.specs.declared.Outcome.{Outcome}

@@ -22,9 +22,9 @@ use Rattle.tables.specs.Told.{Told}
 use Rattle.tables.proofs.SoundLaws.{sound-fits}
 use Rattle.session.specs.declared.Answer.{Answer}
 use Rattle.session.specs.declared.Reply.{Reply}
-use Rattle.session.specs.Refusals.{Ruled, fails, holds, Passed, passed, answered}
+use Rattle.session.specs.Refusals.{Ruled, fails, holds, Passed, passed}
 use Rattle.session.specs.Promises.{hunterAt, targetAt, Places}
-use Rattle.session.proofs.RefusalLaws.{passed-zero, onward, place-granted, sound-rules}
+use Rattle.session.proofs.RefusalLaws.{answered, passed-zero, onward, place-granted, sound-rules}
 use Rattle.session.proofs.Theorems.{place-answer, hunter-placed-sound, target-placed-sound}
 use Rattle.change.specs.Promise.{Changes}
 use Rattle.change.proofs.Theorems.{change-answer, change-keeps-sound}

@@ -13,7 +13,7 @@ use Rattle.entries.specs.Begin.{Openable}
 use Rattle.session.specs.declared.Answer.{Answer}
 use Rattle.session.specs.declared.Answer.the-variants.{Done, Refused}
 use Rattle.session.specs.declared.Reply.{Reply}
-use Rattle.session.specs.Refusals.{Ruled, fails, holds, Passed, passed, toldBy, answered, PlaceRules, OpenRules, TableRules}
+use Rattle.session.specs.Refusals.{Ruled, fails, holds, Passed, passed, toldBy, PlaceRules, OpenRules, TableRules}
 use Rattle.session.specs.Promises.{Places}
 
 -- ---- what is told
@@ -43,7 +43,11 @@ named-told (Refused n) = refl
 pub told-alike : (a b : Answer) → toldBy a ≡ toldBy b → a ≡ b
 told-alike a b e = named-told a ∙ ap (λ x. named (x .name) (x .number)) e ∙ sym (named-told b)
 
--- .. so an answer told by its number is the number's.
+-- .. so an answer told by its number is the number's, as the code returns it.
+abbrev pub answered : ℕ → Answer
+answered zero = Done
+answered (suc k) = Refused (suc k)
+
 answered-told : (n : ℕ) → toldNumber n ≡ toldBy (answered n)
 answered-told zero = refl
 answered-told (suc n) = refl

@@ -25,9 +25,8 @@ use Rattle.entries.specs.Begin.{Openable, begun, Opened}
 use Rattle.session.specs.declared.Answer.{Answer}
 use Rattle.session.specs.declared.Answer.the-variants.{Done}
 use Rattle.session.specs.declared.Reply.{Reply}
-use Rattle.session.specs.Refusals.{answered}
 use Rattle.session.specs.Promises.{hunterAt, targetAt, Places, Opens, Names, Alike}
-use Rattle.session.proofs.RefusalLaws.{answer-is, place-number, open-number, place-granted, open-granted, place-passes, open-passes}
+use Rattle.session.proofs.RefusalLaws.{answered, answer-is, place-number, open-number, place-granted, open-granted, place-passes, open-passes}
 
 -- ---- answers and replies
 

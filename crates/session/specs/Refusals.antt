@@ -1,5 +1,5 @@
 -- Document 01's table of refusals: for each call its rules, each with its number, in the order of checking. Here those of place, open and every call on a session's tables.
-use Prim.Native.Nat.{ℕ, zero, suc, _*_, _<_}
+use Prim.Native.Nat.{ℕ, _*_, _<_}
 use Rattle.plan.specs.Cells.{Size}
 use Rattle.plan.specs.Costs.{planOf, Bytes, Edges}
 use Rattle.tables.specs.declared.Session.{Session}
@@ -22,11 +22,6 @@ pub data Passed : ℕ → Type 0 where
 abbrev pub toldBy : Answer → Told
 toldBy Done = toldDone
 toldBy (Refused n) = toldRefusal n
-
--- The answer of each number, as the code returns it: 0 is no refusal.
-abbrev pub answered : ℕ → Answer
-answered zero = Done
-answered (suc k) = Refused (suc k)
 
 -- Placing a cell: "width or height not 1 to 64"; "a given cell is N or more".
 abbrev pub PlaceRules : Session → ℕ → ℕ → Type 0
