@@ -89,56 +89,67 @@ play-all-requires c κs =
 same-length-19 : tie.Need-same-length-19
 same-length-19 c =
     let after = c .before .before .before .before .before .before .before .before .before .before .before .before .before .before .before .before .before .before .before in
-    let printed = after .before .before .before .before .before .before .before .before .before .before .before .before .before .before .before in
-    omega (arith, after .plan2, printed .before .before .before .before .before .before .before .before .before .before .before .before .before .before .before .before .before .before .before .plan)
+    let played = after .before in
+    let begun = played .before .before .before .before .before .before .before .before .before .before .before .before .before .before .before .before .before in
+    omega (arith, after .plan2, begun .before .before .before .before .before .before .before .before .before .before .before .before .before .before .before .before .plan)
 
 same-length-20 : tie.Need-same-length-20
 same-length-20 c =
     let after = c .before .before .before .before .before .before .before .before .before .before .before .before .before .before .before .before .before in
-    let printed = after .before .before .before .before .before .before .before .before .before .before .before .before .before .before .before .before .before in
-    omega (arith, after .g2, printed .before .before .before .before .before .before .before .before .before .before .before .before .before .before .before .before .before .g)
+    let played = after .before .before .before in
+    let begun = played .before .before .before .before .before .before .before .before .before .before .before .before .before .before .before .before .before in
+    omega (arith, after .g2, begun .before .before .before .before .before .before .before .before .before .before .before .before .before .before .g)
 
 same-length-21 : tie.Need-same-length-21
 same-length-21 c =
     let after = c .before .before .before .before .before .before .before .before .before .before .before .before .before .before .before in
-    let printed = after .before .before .before .before .before .before .before .before .before .before .before .before .before .before .before .before .before .before .before in
-    omega (arith, after .rhs2, printed .before .before .before .before .before .before .before .before .before .before .before .before .before .before .before .rhs)
+    let played = after .before .before .before .before .before in
+    let begun = played .before .before .before .before .before .before .before .before .before .before .before .before .before .before .before .before .before in
+    omega (arith, after .rhs2, begun .before .before .before .before .before .before .before .before .before .before .before .before .rhs)
 
 same-length-22 : tie.Need-same-length-22
 same-length-22 c =
     let after = c .before .before .before .before .before .before .before .before .before .before .before .before .before in
-    let printed = after .before .before .before .before .before .before .before .before .before .before .before .before .before .before .before .before .before .before .before .before .before in
-    omega (arith, after .parent2, printed .before .before .before .before .before .before .before .before .before .before .before .before .before .parent)
+    let played = after .before .before .before .before .before .before .before in
+    let begun = played .before .before .before .before .before .before .before .before .before .before .before .before .before .before .before .before .before in
+    omega (arith, after .parent2, begun .before .before .before .before .before .before .before .before .before .before .parent)
 
 same-length-23 : tie.Need-same-length-23
 same-length-23 c =
     let after = c .before .before .before .before .before .before .before .before .before .before .before in
-    let printed = after .before .before .before .before .before .before .before .before .before .before .before .before .before .before .before .before .before .before .before .before .before .before .before in
-    omega (arith, after .k12, printed .before .before .before .before .before .before .before .before .before .before .before .k1)
+    let played = after .before .before .before .before .before .before .before .before .before in
+    let begun = played .before .before .before .before .before .before .before .before .before .before .before .before .before .before .before .before .before in
+    omega (arith, after .k12, begun .before .before .before .before .before .before .before .before .k1)
 
 same-length-24 : tie.Need-same-length-24
 same-length-24 c =
     let after = c .before .before .before .before .before .before .before .before .before in
-    let printed = after .before .before .before .before .before .before .before .before .before .before .before .before .before .before .before .before .before .before .before .before .before .before .before .before .before in
-    omega (arith, after .k22, printed .before .before .before .before .before .before .before .before .before .k2)
+    let played = after .before .before .before .before .before .before .before .before .before .before .before in
+    let begun = played .before .before .before .before .before .before .before .before .before .before .before .before .before .before .before .before .before in
+    omega (arith, after .k22, begun .before .before .before .before .before .before .k2)
 
 same-length-25 : tie.Need-same-length-25
 same-length-25 c =
     let after = c .before .before .before .before .before .before .before in
-    let printed = after .before .before .before .before .before .before .before .before .before .before .before .before .before .before .before .before .before .before .before .before .before .before .before .before .before .before .before in
-    omega (arith, after .place2, printed .before .before .before .before .before .before .before .place)
+    let played = after .before .before .before .before .before .before .before .before .before .before .before .before .before in
+    let begun = played .before .before .before .before .before .before .before .before .before .before .before .before .before .before .before .before .before in
+    omega (arith, after .place2, begun .before .before .before .before .place)
 
 same-length-26 : tie.Need-same-length-26
 same-length-26 c =
     let after = c .before .before .before .before .before in
-    let printed = after .before .before .before .before .before .before .before .before .before .before .before .before .before .before .before .before .before .before .before .before .before .before .before .before .before .before .before .before .before in
-    omega (arith, after .list2, printed .before .before .before .before .before .list)
+    let played = after .before .before .before .before .before .before .before .before .before .before .before .before .before .before .before in
+    let begun = played .before .before .before .before .before .before .before .before .before .before .before .before .before .before .before .before .before in
+    omega (arith, after .list2, begun .before .before .list)
 
 same-length-27 : tie.Need-same-length-27
 same-length-27 c = search needs
 
 same-length-28 : tie.Need-same-length-28
-same-length-28 c = omega (arith, c .before .text2, c .before .before .before .before .before .before .before .before .before .before .before .before .before .before .before .before .before .before .before .before .before .before .before .before .before .before .before .before .before .before .before .before .before .before .before .before .before .text)
+same-length-28 c =
+    let played = c .before .before .before .before .before .before .before .before .before .before .before .before .before .before .before .before .before .before .before .before in
+    let begun = played .before .before .before .before .before .before .before .before .before .before .before .before .before .before .before .before .before in
+    omega (arith, c .before .text2, begun .text)
 
 returns-3 : tie.Need-returns-3
 returns-3 c = search needs

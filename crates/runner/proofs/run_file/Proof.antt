@@ -10,6 +10,12 @@ use borrow.Author.Needs.{needs}
 use Rattle.runner.proofs.run_file.Statement.{statement}
 use Rattle.runner.proofs.run_file.Tie as tie
 
+-- What is lent as the file is what was read, all of it.
+run-requires : tie.Need-run-requires
+run-requires c κs =
+    let start = c .before .before .before .before .before .before .before .before .before .before .before .before .before .before .before .before .before .before .before .before .before .before .before in
+    running (start .pre .0) (from-start (start .args .got) (start .args .input .now)) (start .pre .1) (c .before .before .before .before .before .before .before .before .before .before .cells-in .ensures)
+
 sub-file : tie.Need-sub-file
 sub-file c = search needs
 
@@ -32,7 +38,9 @@ part-run-start : tie.Need-part-run-start
 part-run-start c = search needs
 
 part-run-end : tie.Need-part-run-end
-part-run-end c = omega (arith, parts-room _ (c .cells-in .ensures), c .before .before .before .before .before .before .before .before .before .before .before .before .before .pre .1 .plan-room)
+part-run-end c =
+    let start = c .before .before .before .before .before .before .before .before .before .before .before .before .before in
+    omega (arith, parts-room _ (c .cells-in .ensures), start .pre .1 .plan-room)
 
 sub-run-2 : tie.Need-sub-run-2
 sub-run-2 c = search needs
@@ -41,7 +49,10 @@ part-run-start-2 : tie.Need-part-run-start-2
 part-run-start-2 c = search needs
 
 part-run-end-2 : tie.Need-part-run-end-2
-part-run-end-2 c = omega (arith, parts-room _ (c .before .cells-in .ensures), c .before .before .before .before .before .before .before .before .before .before .before .before .before .before .pre .1 .g-room)
+part-run-end-2 c =
+    let told = c .before in
+    let start = told .before .before .before .before .before .before .before .before .before .before .before .before .before in
+    omega (arith, parts-room _ (told .cells-in .ensures), start .pre .1 .g-room)
 
 sub-run-3 : tie.Need-sub-run-3
 sub-run-3 c = search needs
@@ -50,7 +61,10 @@ part-run-start-3 : tie.Need-part-run-start-3
 part-run-start-3 c = search needs
 
 part-run-end-3 : tie.Need-part-run-end-3
-part-run-end-3 c = omega (arith, parts-room _ (c .before .before .cells-in .ensures), c .before .before .before .before .before .before .before .before .before .before .before .before .before .before .before .pre .1 .rhs-room)
+part-run-end-3 c =
+    let told = c .before .before in
+    let start = told .before .before .before .before .before .before .before .before .before .before .before .before .before in
+    omega (arith, parts-room _ (told .cells-in .ensures), start .pre .1 .rhs-room)
 
 sub-run-4 : tie.Need-sub-run-4
 sub-run-4 c = search needs
@@ -59,7 +73,10 @@ part-run-start-4 : tie.Need-part-run-start-4
 part-run-start-4 c = search needs
 
 part-run-end-4 : tie.Need-part-run-end-4
-part-run-end-4 c = omega (arith, parts-room _ (c .before .before .before .cells-in .ensures), c .before .before .before .before .before .before .before .before .before .before .before .before .before .before .before .before .pre .1 .parent-room)
+part-run-end-4 c =
+    let told = c .before .before .before in
+    let start = told .before .before .before .before .before .before .before .before .before .before .before .before .before in
+    omega (arith, parts-room _ (told .cells-in .ensures), start .pre .1 .parent-room)
 
 sub-run-5 : tie.Need-sub-run-5
 sub-run-5 c = search needs
@@ -68,7 +85,10 @@ part-run-start-5 : tie.Need-part-run-start-5
 part-run-start-5 c = search needs
 
 part-run-end-5 : tie.Need-part-run-end-5
-part-run-end-5 c = omega (arith, parts-room _ (c .before .before .before .before .cells-in .ensures), c .before .before .before .before .before .before .before .before .before .before .before .before .before .before .before .before .before .pre .1 .k1-room)
+part-run-end-5 c =
+    let told = c .before .before .before .before in
+    let start = told .before .before .before .before .before .before .before .before .before .before .before .before .before in
+    omega (arith, parts-room _ (told .cells-in .ensures), start .pre .1 .k1-room)
 
 sub-run-6 : tie.Need-sub-run-6
 sub-run-6 c = search needs
@@ -77,7 +97,10 @@ part-run-start-6 : tie.Need-part-run-start-6
 part-run-start-6 c = search needs
 
 part-run-end-6 : tie.Need-part-run-end-6
-part-run-end-6 c = omega (arith, parts-room _ (c .before .before .before .before .before .cells-in .ensures), c .before .before .before .before .before .before .before .before .before .before .before .before .before .before .before .before .before .before .pre .1 .k2-room)
+part-run-end-6 c =
+    let told = c .before .before .before .before .before in
+    let start = told .before .before .before .before .before .before .before .before .before .before .before .before .before in
+    omega (arith, parts-room _ (told .cells-in .ensures), start .pre .1 .k2-room)
 
 sub-run-7 : tie.Need-sub-run-7
 sub-run-7 c = search needs
@@ -86,7 +109,10 @@ part-run-start-7 : tie.Need-part-run-start-7
 part-run-start-7 c = search needs
 
 part-run-end-7 : tie.Need-part-run-end-7
-part-run-end-7 c = omega (arith, parts-room _ (c .before .before .before .before .before .before .cells-in .ensures), c .before .before .before .before .before .before .before .before .before .before .before .before .before .before .before .before .before .before .before .pre .1 .place-room)
+part-run-end-7 c =
+    let told = c .before .before .before .before .before .before in
+    let start = told .before .before .before .before .before .before .before .before .before .before .before .before .before in
+    omega (arith, parts-room _ (told .cells-in .ensures), start .pre .1 .place-room)
 
 sub-run-8 : tie.Need-sub-run-8
 sub-run-8 c = search needs
@@ -95,24 +121,30 @@ part-run-start-8 : tie.Need-part-run-start-8
 part-run-start-8 c = search needs
 
 part-run-end-8 : tie.Need-part-run-end-8
-part-run-end-8 c = omega (arith, parts-room _ (c .before .before .before .before .before .before .before .cells-in .ensures), c .before .before .before .before .before .before .before .before .before .before .before .before .before .before .before .before .before .before .before .before .pre .1 .list-room)
-
-run-requires : tie.Need-run-requires
-run-requires c κs =
-    let start = c .before .before .before .before .before .before .before .before .before .before .before .before .before .before .before .before .before .before .before .before .before .before .before in
-    running (start .pre .0) (from-start (start .args .got) (start .args .input .now)) (start .pre .1) (c .before .before .before .before .before .before .before .before .before .before .cells-in .ensures)
+part-run-end-8 c =
+    let told = c .before .before .before .before .before .before .before in
+    let start = told .before .before .before .before .before .before .before .before .before .before .before .before .before in
+    omega (arith, parts-room _ (told .cells-in .ensures), start .pre .1 .list-room)
 
 same-length : tie.Need-same-length
-same-length c = omega (arith, c .before .before .before .before .before .before .before .before .before .before .before .before .before .before .before .before .before .before .before .plan, c .before .before .before .before .before .before .before .before .before .before .before .before .before .before .before .before .before .before .before .before .run)
+same-length c =
+    let ran = c .before .before .before .before .before .before .before .before .before .before .before .before .before .before .before .before .before .before .before .before in
+    omega (arith, c .before .before .before .before .before .before .before .before .before .before .before .before .before .before .before .before .before .before .before .plan, ran .run)
 
 same-length-2 : tie.Need-same-length-2
-same-length-2 c = omega (arith, c .before .before .before .before .before .before .before .before .before .before .before .before .before .before .before .before .before .g, c .before .before .before .before .before .before .before .before .before .before .before .before .before .before .before .before .before .before .before .before .run)
+same-length-2 c =
+    let ran = c .before .before .before .before .before .before .before .before .before .before .before .before .before .before .before .before .before .before .before .before in
+    omega (arith, c .before .before .before .before .before .before .before .before .before .before .before .before .before .before .before .before .before .g, ran .run)
 
 same-length-3 : tie.Need-same-length-3
-same-length-3 c = omega (arith, c .before .before .before .before .before .before .before .before .before .before .before .before .before .before .before .rhs, c .before .before .before .before .before .before .before .before .before .before .before .before .before .before .before .before .before .before .before .before .run)
+same-length-3 c =
+    let ran = c .before .before .before .before .before .before .before .before .before .before .before .before .before .before .before .before .before .before .before .before in
+    omega (arith, c .before .before .before .before .before .before .before .before .before .before .before .before .before .before .before .rhs, ran .run)
 
 same-length-4 : tie.Need-same-length-4
-same-length-4 c = omega (arith, c .before .before .before .before .before .before .before .before .before .before .before .before .before .parent, c .before .before .before .before .before .before .before .before .before .before .before .before .before .before .before .before .before .before .before .before .run)
+same-length-4 c =
+    let ran = c .before .before .before .before .before .before .before .before .before .before .before .before .before .before .before .before .before .before .before .before in
+    omega (arith, c .before .before .before .before .before .before .before .before .before .before .before .before .before .parent, ran .run)
 
 same-length-5 : tie.Need-same-length-5
 same-length-5 c = search needs
