@@ -20,13 +20,16 @@ use Rattle.drill.specs.Promises.{stands, told}
 use Rattle.drill.proofs.PlayLaws.{hunter-replied, target-replied, change-replied, search-is}
 
 -- The line of an action is that of the public call's own answer, whatever result its statement allows.
-pub hunter-printed : {s : Session} {t : Tables} {cell : ℕ} {r : Reply} → Sound s t → Places s (hunterAt s cell) cell r → turn (stands s t) (Hunter cell) ≡ record { after = stands (r .session) t; shown = []; line = told (r .answer) }
+pub hunter-printed : {s : Session} {t : Tables} {cell : ℕ} {r : Reply} → Sound s t → Places s (hunterAt s cell) cell r
+    → turn (stands s t) (Hunter cell) ≡ record { after = stands (r .session) t; shown = []; line = told (r .answer) }
 hunter-printed S P = hunter-replied S P .is
 
-pub target-printed : {s : Session} {t : Tables} {cell : ℕ} {r : Reply} → Sound s t → Places s (targetAt s cell) cell r → turn (stands s t) (Target cell) ≡ record { after = stands (r .session) t; shown = []; line = told (r .answer) }
+pub target-printed : {s : Session} {t : Tables} {cell : ℕ} {r : Reply} → Sound s t → Places s (targetAt s cell) cell r
+    → turn (stands s t) (Target cell) ≡ record { after = stands (r .session) t; shown = []; line = told (r .answer) }
 target-printed S P = target-replied S P .is
 
-pub change-printed : {s : Session} {t t′ : Tables} {u d cost : ℕ} {r : Reply} → Sound s t → Changes s t u d cost r t′ → turn (stands s t) (Change u d cost) ≡ record { after = stands (r .session) t′; shown = []; line = told (r .answer) }
+pub change-printed : {s : Session} {t t′ : Tables} {u d cost : ℕ} {r : Reply} → Sound s t → Changes s t u d cost r t′
+    → turn (stands s t) (Change u d cost) ≡ record { after = stands (r .session) t′; shown = []; line = told (r .answer) }
 change-printed S P = change-replied S P .is
 
 pub search-printed : {s : Session} {t t′ : Tables} (way : List ℕ) {way′ : List ℕ} {r : Outcome} → Sound s t → cells s ≤ length way → Searches s t way r t′ way′

@@ -1,3 +1,4 @@
+-- `drill::goes_on` decides whether an action is left over and the text has room for the longest line (`room-decided`).
 use native.Mathlib.Omega.{arith}
 use borrow.Author.Needs.{needs}
 use Rattle.decide.proofs.DecideLaws.{decides-no}

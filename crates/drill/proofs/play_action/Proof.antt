@@ -1,16 +1,9 @@
+-- `drill::play_action` leaves what the definition says of each action and puts its line.
 use mathlib.Core.Path.{refl}
-use native.Mathlib.Omega.{arith}
 use Rattle.drill.proofs.PlayLaws.{hunter-replied, target-replied, turns-of, bad-turns, turns-at}
 use borrow.Author.Needs.{needs}
 use Rattle.drill.proofs.play_action.Statement.{statement}
 use Rattle.drill.proofs.play_action.Tie as tie
-use Rattle.drill.proofs.play_action.Reads as reads
-use Rattle.drill.proofs.play_action.Lts as lts
-use Rattle.drill.proofs.play_change.Reads as play-change-reads
-use Rattle.drill.proofs.play_search.Reads as play-search-reads
-use Rattle.drill.proofs.put_reply.Reads as put-reply-reads
-use Rattle.session.proofs.place_hunter.Reads as place-hunter-reads
-use Rattle.session.proofs.place_target.Reads as place-target-reads
 
 enum-known-action : tie.Need-enum-known-action
 enum-known-action c = search needs
@@ -76,19 +69,27 @@ same-length-10 : tie.Need-same-length-10
 same-length-10 c = search needs
 
 returns : tie.Need-returns
-returns c = turns-at (c .before .before .before .before .before .before .before .before .before .before .before .before .before .before .before .before .before .before .before .before .before .before .before .before .before .before .before .before .action .given .1) refl (c .before .before .before .before .before .before .before .before .before .before .before .before .before .before .before .before .play-change .ensures)
+returns c =
+    let played = c .before .before .before .before .before .before .before .before .before .before .before .before .before .before .before .before in
+    turns-at (played .before .before .before .before .before .before .before .before .before .before .before .before .action .given .1) refl (played .play-change .ensures)
 
 same-length-11 : tie.Need-same-length-11
 same-length-11 c = search needs
 
 returns-2 : tie.Need-returns-2
-returns-2 c = turns-at (c .before .before .before .before .before .before .action2 .given .1) refl (turns-of (hunter-replied (c .before .before .before .before .before .before .before .before .before .before .before .before .before .before .before .before .before .before .pre .sound) (c .before .before .before .before .place-hunter .ensures)) (c .before .before .put-reply .ensures))
+returns-2 c =
+    let placed = c .before .before .before .before in
+    let start = placed .before .before .before .before .before .before .before .before .before .before .before .before .before .before in
+    turns-at (placed .before .before .action2 .given .1) refl (turns-of (hunter-replied (start .pre .sound) (placed .place-hunter .ensures)) (c .before .before .put-reply .ensures))
 
 same-length-12 : tie.Need-same-length-12
 same-length-12 c = search needs
 
 returns-3 : tie.Need-returns-3
-returns-3 c = turns-at (c .before .before .before .before .before .before .action3 .given .1) refl (turns-of (target-replied (c .before .before .before .before .before .before .before .before .before .before .before .before .before .before .before .before .before .before .pre .sound) (c .before .before .before .before .place-target .ensures)) (c .before .before .put-reply2 .ensures))
+returns-3 c =
+    let placed = c .before .before .before .before in
+    let start = placed .before .before .before .before .before .before .before .before .before .before .before .before .before .before in
+    turns-at (placed .before .before .action3 .given .1) refl (turns-of (target-replied (start .pre .sound) (placed .place-target .ensures)) (c .before .before .put-reply2 .ensures))
 
 same-length-13 : tie.Need-same-length-13
 same-length-13 c = search needs
@@ -121,7 +122,9 @@ same-length-22 : tie.Need-same-length-22
 same-length-22 c = search needs
 
 returns-4 : tie.Need-returns-4
-returns-4 c = turns-at (c .before .before .before .before .before .before .before .before .before .before .before .before .before .before .before .before .before .before .before .before .before .before .before .before .before .before .before .before .before .enum-told .given .1) refl (c .before .before .before .before .before .before .before .before .before .before .before .before .before .before .before .before .before .before .play-search .ensures)
+returns-4 c =
+    let played = c .before .before .before .before .before .before .before .before .before .before .before .before .before .before .before .before .before .before in
+    turns-at (played .before .before .before .before .before .before .before .before .before .before .before .enum-told .given .1) refl (played .play-search .ensures)
 
 returns-5 : tie.Need-returns-5
 returns-5 c = turns-at (c .enum-told2 .given .1) refl (bad-turns (c .before .before .before .before .before .before .before .before .before .before .before .before .pre .sound))

@@ -1,18 +1,18 @@
+-- `drill::play_change` leaves what the definition says of a change, and puts the line of its reply (`change-replied`, `turns-of`).
 use Rattle.drill.proofs.PlayLaws.{change-replied, turns-of}
 use native.Mathlib.Omega.{arith}
 use borrow.Author.Needs.{needs}
 use Rattle.drill.proofs.play_change.Statement.{statement}
 use Rattle.drill.proofs.play_change.Tie as tie
-use Rattle.drill.proofs.play_change.Reads as reads
-use Rattle.drill.proofs.play_change.Lts as lts
-use Rattle.drill.proofs.put_reply.Reads as put-reply-reads
-use Rattle.change.proofs.change_sound.Reads as change-sound-reads
 
 change-sound-requires : tie.Need-change-sound-requires
 change-sound-requires c κs = search needs
 
 put-reply-requires : tie.Need-put-reply-requires
-put-reply-requires c κs = omega (arith, c .before .before .before .before .before .before .before .before .before .before .before .before .before .before .before .before .before .before .before .before .before .before .before .before .before .before .before .before .before .before .before .before .before .pre .text-room)
+put-reply-requires c κs =
+    let changed = c .before .before .before .before .before .before .before .before .before .before .before .before .before .before .before in
+    let start = changed .before .before .before .before .before .before .before .before .before .before .before .before .before .before .before .before .before .before in
+    omega (arith, start .pre .text-room)
 
 same-length : tie.Need-same-length
 same-length c = search needs
@@ -39,7 +39,10 @@ same-length-8 : tie.Need-same-length-8
 same-length-8 c = search needs
 
 returns : tie.Need-returns
-returns c = turns-of (change-replied (c .before .before .before .before .before .before .before .before .before .before .before .before .before .before .before .before .before .before .before .before .before .before .before .before .before .before .before .before .before .before .before .before .before .before .before .before .pre .sound) (c .before .before .before .before .before .before .before .before .before .before .before .before .before .before .before .before .before .before .change-sound .ensures)) (c .before .before .put-reply .ensures)
+returns c =
+    let changed = c .before .before .before .before .before .before .before .before .before .before .before .before .before .before .before .before .before .before in
+    let start = changed .before .before .before .before .before .before .before .before .before .before .before .before .before .before .before .before .before .before in
+    turns-of (change-replied (start .pre .sound) (changed .change-sound .ensures)) (c .before .before .put-reply .ensures)
 
 pub play-change-spec : {M : Type 1} → statement M
 play-change-spec =

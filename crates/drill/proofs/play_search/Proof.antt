@@ -1,18 +1,19 @@
+-- `drill::play_search` leaves what the definition says of a search, the way list too, and puts its line (`search-turns`).
 use Rattle.drill.proofs.PlayLaws.{shown-few, search-turns}
 use native.Mathlib.Omega.{arith}
 use borrow.Author.Needs.{needs}
 use Rattle.drill.proofs.play_search.Statement.{statement}
 use Rattle.drill.proofs.play_search.Tie as tie
-use Rattle.drill.proofs.play_search.Reads as reads
-use Rattle.drill.proofs.play_search.Lts as lts
-use Rattle.lines.proofs.put_answer.Reads as put-answer-reads
-use Rattle.search.proofs.search_sound.Reads as search-sound-reads
 
 search-sound-requires : tie.Need-search-sound-requires
 search-sound-requires c κs = search needs
 
 put-answer-requires : tie.Need-put-answer-requires
-put-answer-requires c κs = (omega (arith, shown-few (c .before .before .before .before .before .before .before .before .before .before .before .before .before .before .before .before .before .before .before .before .before .before .before .before .before .before .before .before .before .before .before .before .before .before .before .before .before .before .pre .sound) (c .before .before .before .before .before .before .before .before .before .before .before .before .before .before .before .before .before .before .before .before .before .before .before .before .before .before .before .before .before .before .before .before .before .before .before .before .before .before .pre .way-room) (c .before .before .before .before .before .before .before .before .before .before .before .before .before .before .before .before .before .before .before .search-sound .ensures), c .before .before .before .before .before .before .before .before .before .before .before .before .before .before .before .before .before .before .before .before .before .before .before .before .before .before .before .before .before .before .before .before .before .before .before .before .before .before .pre .way-room, c .before .before .before .before .way), omega (arith, shown-few (c .before .before .before .before .before .before .before .before .before .before .before .before .before .before .before .before .before .before .before .before .before .before .before .before .before .before .before .before .before .before .before .before .before .before .before .before .before .before .pre .sound) (c .before .before .before .before .before .before .before .before .before .before .before .before .before .before .before .before .before .before .before .before .before .before .before .before .before .before .before .before .before .before .before .before .before .before .before .before .before .before .pre .way-room) (c .before .before .before .before .before .before .before .before .before .before .before .before .before .before .before .before .before .before .before .search-sound .ensures), c .before .before .before .before .before .before .before .before .before .before .before .before .before .before .before .before .before .before .before .before .before .before .before .before .before .before .before .before .before .before .before .before .before .before .before .before .before .before .pre .text-room))
+put-answer-requires c κs =
+    let found = c .before .before .before .before .before .before .before .before .before .before .before .before .before .before .before .before .before .before .before in
+    let start = found .before .before .before .before .before .before .before .before .before .before .before .before .before .before .before .before .before .before .before in
+    let few = shown-few (start .pre .sound) (start .pre .way-room) (found .search-sound .ensures) in
+    (omega (arith, few, start .pre .way-room, c .before .before .before .before .way), omega (arith, few, start .pre .text-room))
 
 same-length : tie.Need-same-length
 same-length c = search needs
@@ -42,7 +43,10 @@ same-length-9 : tie.Need-same-length-9
 same-length-9 c = search needs
 
 returns : tie.Need-returns
-returns c = search-turns (c .before .before .before .before .before .before .before .before .before .before .before .before .before .before .before .before .before .before .before .before .before .before .before .before .before .before .before .before .before .before .before .before .before .before .before .before .before .before .before .before .before .pre .sound) (c .before .before .before .before .before .before .before .before .before .before .before .before .before .before .before .before .before .before .before .before .before .before .before .before .before .before .before .before .before .before .before .before .before .before .before .before .before .before .before .before .before .pre .way-room) (c .before .before .before .before .before .before .before .before .before .before .before .before .before .before .before .before .before .before .before .before .before .before .search-sound .ensures) (c .before .before .put-answer .ensures)
+returns c =
+    let found = c .before .before .before .before .before .before .before .before .before .before .before .before .before .before .before .before .before .before .before .before .before .before in
+    let start = found .before .before .before .before .before .before .before .before .before .before .before .before .before .before .before .before .before .before .before in
+    search-turns (start .pre .sound) (start .pre .way-room) (found .search-sound .ensures) (c .before .before .put-answer .ensures)
 
 pub play-search-spec : {M : Type 1} → statement M
 play-search-spec =

@@ -1,14 +1,10 @@
+-- `drill::put_reply` puts the line of a refusal, and nothing where the call is done.
 use mathlib.Core.Path.{refl, sym, ap}
 use Rattle.drill.specs.Promises.{told}
 use Rattle.lines.proofs.PutLaws.{put-nothing, put-as}
-use mathlib.Core.Path.{refl}
-use Rattle.lines.proofs.PutLaws.{put-nothing}
 use borrow.Author.Needs.{needs}
 use Rattle.drill.proofs.put_reply.Statement.{statement}
 use Rattle.drill.proofs.put_reply.Tie as tie
-use Rattle.drill.proofs.put_reply.Reads as reads
-use Rattle.drill.proofs.put_reply.Lts as lts
-use Rattle.lines.proofs.put_refusal.Reads as put-refusal-reads
 
 enum-known-answer : tie.Need-enum-known-answer
 enum-known-answer c = search needs
