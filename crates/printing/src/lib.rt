@@ -6,12 +6,20 @@ use tables::Session;
 ghost use mathlib.Core.Path.{_≡_};
 ghost use mathlib.Core.Bool.{true, false};
 ghost use mathlib.Core.Logic.{_⊎_};
-ghost use Prim.Native.Nat.{_+_};
+ghost use Prim.Native.Nat.{_+_, _≤_};
 ghost use lib.ListN.{length, take};
 ghost use Rattle.tables.specs.Lent.{given};
 ghost use Rattle.drill.specs.Output.{output};
 ghost use Rattle.drill.specs.Promises.{NextPiece};
 ghost use Rattle.printing.specs.Promises.{Piece, Printing, WrittenTo};
+
+// The file: the first `got` bytes of the input, which were read.
+pub fn file_in(input: &[u8], got: usize) -> &[u8]
+    requires { ⌜ got ≤ length (now input) ⌝ }
+    ensures { λ r. ⌜ now r ≡ take got (now (input .entry)) ⌝ }
+{
+    &input[0..got]
+}
 
 // How many bytes of the output are written, and whether a write failed.
 pub struct Written {
@@ -42,6 +50,14 @@ pub fn print(input: &[u8], got: usize, printed: usize, text: &[u8], used: usize)
         bytes: printed + used,
         failed: false,
     }
+}
+
+// Prints the first piece of the output: no byte is printed before it.
+pub fn print_first(input: &[u8], got: usize, text: &[u8], used: usize) -> Written
+    requires { ⌜ Piece (now input) got 0 (now text) used ⌝ }
+    ensures { λ r. ⌜ WrittenTo r (0 + used) ⌝ }
+{
+    print(input, got, 0, text, used)
 }
 
 // What is left to play: nothing once a write has failed.

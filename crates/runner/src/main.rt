@@ -3,20 +3,12 @@ use drill_file;
 use libc::STDIN_FILENO;
 use opening;
 use printing;
-ghost use Prim.Native.Nat.{_+_, _≤_};
+ghost use Prim.Native.Nat.{_≤_};
 ghost use lib.ListN.{length, take};
 ghost use Rattle.tables.specs.Lent.{given};
 ghost use Rattle.drill.specs.Output.{output};
-ghost use Rattle.printing.specs.Promises.{Piece, WrittenTo};
+ghost use Rattle.printing.specs.Promises.{WrittenTo};
 ghost use Rattle.runner.specs.Own.{Own, Running};
-
-// Prints the first piece of the output: no byte is printed before it.
-fn print_first(input: &[u8], got: usize, text: &[u8], used: usize) -> printing::Written
-    requires { ⌜ Piece (now input) got 0 (now text) used ⌝ }
-    ensures { λ r. ⌜ WrittenTo r (0 + used) ⌝ }
-{
-    printing::print(input, got, 0, text, used)
-}
 
 // Runs a file on tables of its size: prints what begin leaves in the text, then plays and prints what is left over.
 fn run(
@@ -38,7 +30,7 @@ fn run(
     ensures { λ r. ⌜ WrittenTo r (length (output (now (file .entry)))) ⌝ }
 {
     let begun = opening::begin(file, plan, g, rhs, parent, k1, k2, place, list, text);
-    let first = print_first(input, got, text, begun.used);
+    let first = printing::print_first(input, got, text, begun.used);
     if first.failed {
         return first;
     }
@@ -85,7 +77,7 @@ fn run_file(
     requires { ⌜ Own plan g rhs parent k1 k2 place list way text ⌝ }
     ensures { λ r. ⌜ WrittenTo r (length (output (take got (now (input .entry))))) ⌝ }
 {
-    let file = &input[0..got];
+    let file = printing::file_in(input, got);
     let n = drill_file::cells_in(file);
     let m = 4 * n;
     run(

@@ -3,27 +3,14 @@ use mathlib.Core.Path.{subst}
 use native.Mathlib.Omega.{arith}
 use lib.ListN.{length}
 use Rattle.drill.specs.Output.{output}
-use Rattle.drill.proofs.PieceLaws.{from-start}
 use Rattle.printing.specs.Promises.{WrittenTo}
 use Rattle.runner.proofs.RunLaws.{parts-room, running}
 use borrow.Author.Needs.{needs}
 use Rattle.runner.proofs.run_file.Statement.{statement}
 use Rattle.runner.proofs.run_file.Tie as tie
 
--- What is lent as the file is what was read, all of it.
-run-requires : tie.Need-run-requires
-run-requires c κs =
-    let start = c .before .before .before .before .before .before .before .before .before .before .before .before .before .before .before .before .before .before .before .before .before .before .before in
-    running (start .pre .0) (from-start (start .args .got) (start .args .input .now)) (start .pre .1) (c .before .before .before .before .before .before .before .before .before .before .cells-in .ensures)
-
-sub-file : tie.Need-sub-file
-sub-file c = search needs
-
-part-file-start : tie.Need-part-file-start
-part-file-start c = search needs
-
-part-file-end : tie.Need-part-file-end
-part-file-end c = search needs
+file-in-requires : tie.Need-file-in-requires
+file-in-requires c κs = search needs
 
 cells-in-requires : tie.Need-cells-in-requires
 cells-in-requires c κs = search needs
@@ -126,6 +113,12 @@ part-run-end-8 c =
     let start = told .before .before .before .before .before .before .before .before .before .before .before .before .before in
     omega (arith, parts-room _ (told .cells-in .ensures), start .pre .1 .list-room)
 
+run-requires : tie.Need-run-requires
+run-requires c κs =
+    let told = c .before .before .before .before .before .before .before .before .before .before in
+    let start = told .before .before .before .before .before .before .before .before .before .before .before .before .before in
+    running (start .pre .0) (told .before .file-in .ensures) (start .pre .1) (told .cells-in .ensures)
+
 same-length : tie.Need-same-length
 same-length c =
     let ran = c .before .before .before .before .before .before .before .before .before .before .before .before .before .before .before .before .before .before .before .before in
@@ -167,17 +160,15 @@ same-length-10 c = search needs
 returns : tie.Need-returns
 returns c =
     let ran = c .before .before .before .before .before .before .before .before .before .before .before .before .before .before .before .before .before .before .before .before in
-    let start = ran .before .before .before .before .before .before .before .before .before .before .before .before .before .before .before .before .before .before .before .before .before .before .before .before in
+    let lent = ran .before .before .before .before .before .before .before .before .before .before .before .before in
     let w = ran .run .result in
-    subst (λ f. WrittenTo w (length (output f))) (from-start (start .args .got) (start .args .input .now)) (ran .run .ensures)
+    subst (λ f. WrittenTo w (length (output f))) (lent .file-in .ensures) (ran .run .ensures)
 
 pub run-file-spec : {M : Type 1} → statement M
 run-file-spec =
     tie.close
     (tie.spec
-    sub-file
-    part-file-start
-    part-file-end
+    file-in-requires
     cells-in-requires
     mul-m
     sub-run

@@ -1,7 +1,7 @@
--- `runner::print_first` prints one piece, and that is all that is written then.
+-- `printing::print_first` prints one piece, and that is all that is written then.
 use borrow.Author.Needs.{needs}
-use Rattle.runner.proofs.print_first.Statement.{statement}
-use Rattle.runner.proofs.print_first.Tie as tie
+use Rattle.printing.proofs.print_first.Statement.{statement}
+use Rattle.printing.proofs.print_first.Tie as tie
 
 print-requires : tie.Need-print-requires
 print-requires c κs = search needs
