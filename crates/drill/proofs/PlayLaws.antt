@@ -16,7 +16,7 @@ use Rattle.decide.proofs.DecideLaws.{decides-le}
 use Rattle.plan.specs.Costs.{planOf}
 use Rattle.plan.specs.Costs as costs
 use Rattle.tables.specs.declared.Session.{Session}
-use Rattle.tables.specs.Lent.{Tables, cells, floor, session, core, Fits}
+use Rattle.tables.specs.Lent.{Tables, cells, floor, session, core}
 use Rattle.tables.specs.Sound.{Sound}
 use Rattle.tables.specs.Told.{Told}
 use Rattle.tables.proofs.SoundLaws.{sound-fits}
@@ -263,12 +263,9 @@ going-start S = record { done = 0; all = omega arith; place = omega arith; sound
 
 module _ {file : List ℕ} {s : Session} {t : Tables} {way₀ : List ℕ} {start actions : ℕ} {text₀ : List ℕ} {now : Session} {t′ : Tables} {way text : List ℕ} {at left used : ℕ}
     (G : Going file s t way₀ start actions text₀ now t′ way text at left used) where
-  -- The size stays as it was, and the tables keep their lengths.
+  -- The size stays as it was.
   pub going-cells : cells now ≡ cells s
   going-cells = ap (λ h. h * now .width) (G .high) ∙ ap (λ w. s .height * w) (G .wide)
-
-  pub going-fits : Fits (cells s) t′
-  going-fits = subst (λ n. Fits n t′) going-cells (sound-fits (G .sound))
 
   -- What is used of the text is in it.
   pub going-put : used ≤ length text₀
