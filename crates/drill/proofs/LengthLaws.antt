@@ -1,4 +1,4 @@
--- The output of a file has fewer bytes than a number of 64 bits counts, whatever the file is.
+-- The output of a file has fewer bytes than a number of 32 bits counts, whatever the file is.
 use mathlib.Core.Path.{_≡_, refl, ap, _∙_}
 use mathlib.Core.List.{List, [], _∷_, _++_}
 use Prim.Native.Nat.{ℕ, zero, suc, _+_, _*_, _≤_, _<_, _^_}
@@ -91,11 +91,11 @@ actions-count file at zero = refl
 actions-count file at (suc n) = ap suc (actions-count file (at + 5) n)
 
 -- A file that is played has at most 13,104 actions, and 4,096 cells.
-pub output-few : (file : List ℕ) → length (output file) < 2 ^ 64
+pub output-few : (file : List ℕ) → length (output file) < 2 ^ 32
 unfolding output
-output-few file = choose-is (λ (l : List ℕ). length l < 2 ^ 64) _ (λ z. of-played z) (λ _. omega (arith, refusal-few (fileNumber file)))
+output-few file = choose-is (λ (l : List ℕ). length l < 2 ^ 32) _ (λ z. of-played z) (λ _. omega (arith, refusal-few (fileNumber file)))
   where
-    of-played : fileNumber file ≡ 0 → length (played (begun file) (actionsOf file)) < 2 ^ 64
+    of-played : fileNumber file ≡ 0 → length (played (begun file) (actionsOf file)) < 2 ^ 32
     of-played z =
         let F = formed file (file-formed file z) in
         let few : length (actionsOf file) ≤ 13104 = omega (arith, actions-count file (trailerOf file .offset) (trailerOf file .actions), F .whole, F .short) in
@@ -103,5 +103,5 @@ output-few file = choose-is (λ (l : List ℕ). length l < 2 ^ 64) _ (λ z. of-p
         omega (arith, played-few (actionsOf file) (begun file) (cells (begun file .plan)) refl, mul-le-mul few short)
 
 -- So the bytes can be counted to the end of each piece.
-pub piece-counted : {file : List ℕ} {printed : ℕ} {piece : List ℕ} → NextPiece file printed piece → printed + length piece < 2 ^ 64
+pub piece-counted : {file : List ℕ} {printed : ℕ} {piece : List ℕ} → NextPiece file printed piece → printed + length piece < 2 ^ 32
 piece-counted {file} {printed} {piece} N = omega (arith, N .within, ap length (N .is), length-drop printed (output file), length-append piece (N .rest), output-few file)

@@ -1,17 +1,15 @@
 // Printing: the one function that writes, and the loop that plays what is left over of a file and prints it, piece after piece.
+use drill::Played;
 use drill_file;
 use libc::STDOUT_FILENO;
 use play;
 use tables::Session;
 ghost use mathlib.Core.Path.{_≡_};
-ghost use mathlib.Core.Bool.{true, false};
-ghost use mathlib.Core.Logic.{_⊎_};
 ghost use Prim.Native.Nat.{_+_, _≤_};
 ghost use lib.ListN.{length, take};
 ghost use Rattle.tables.specs.Lent.{given};
 ghost use Rattle.drill.specs.Output.{output};
-ghost use Rattle.drill.specs.Promises.{NextPiece};
-ghost use Rattle.printing.specs.Promises.{Piece, Printing, WrittenTo};
+ghost use Rattle.printing.specs.Promises.{counted, Piece, Printing, Moves, WrittenTo};
 
 // The file: the first `got` bytes of the input, which were read.
 pub fn file_in(input: &[u8], got: usize) -> &[u8]
@@ -21,53 +19,37 @@ pub fn file_in(input: &[u8], got: usize) -> &[u8]
     &input[0..got]
 }
 
-// How many bytes of the output are written, and whether a write failed.
-pub struct Written {
-    pub bytes: usize,
-    pub failed: bool,
-}
+// What the count of bytes written is once a write has failed: a number that no output has, so that no piece is the next any more.
+const FAILED: usize = 18446744073709551615;
 
-// The one function that writes to standard output. What it is handed is the next piece of the output of the file, the first `got` bytes of the input. Is it written?
-fn write_piece(input: &[u8], got: usize, printed: usize, piece: &[u8]) -> bool
-    requires { ⌜ NextPiece (take got (now input)) printed (now piece) ⌝ }
+// The one function that writes to standard output, and the one that moves the count on. The first `used` bytes of the text are the next piece of the output of the file, the first `got` bytes of the input.
+// What is then left to play: nothing once a write has failed, which is told.
+fn write_piece(
+    input: &[u8],
+    got: usize,
+    text: &[u8],
+    used: usize,
+    left: usize,
+    count: &mut [usize],
+) -> usize
+    requires { ⌜ Piece (now input) got (now text) used (now count) ⌝ }
+    ensures { λ r. ⌜ Moves r left 0 (counted (now (count .entry)) + used) (now (count .exit)) ⌝ }
 {
-    io::write_all(STDOUT_FILENO, piece)
-}
-
-// Prints the first `used` bytes of the text, all at once; a write that fails is told.
-pub fn print(input: &[u8], got: usize, printed: usize, text: &[u8], used: usize) -> Written
-    requires { ⌜ Piece (now input) got printed (now text) used ⌝ }
-    ensures { λ r. ⌜ WrittenTo r (printed + used) ⌝ }
-{
-    if !write_piece(input, got, printed, &text[0..used]) {
-        os::fail(b"write");
-        return Written {
-            bytes: printed,
-            failed: true,
-        };
+    if io::write_all(STDOUT_FILENO, &text[0..used]) {
+        count[0] += used;
+        return left;
     }
-    Written {
-        bytes: printed + used,
-        failed: false,
-    }
+    os::fail(b"write");
+    count[0] = FAILED;
+    0
 }
 
-// Prints the first piece of the output: no byte is printed before it.
-pub fn print_first(input: &[u8], got: usize, text: &[u8], used: usize) -> Written
-    requires { ⌜ Piece (now input) got 0 (now text) used ⌝ }
-    ensures { λ r. ⌜ WrittenTo r (0 + used) ⌝ }
+// Prints the line of a file refused, or the lines of the actions played. How many actions are then left to play?
+pub fn print(input: &[u8], got: usize, text: &[u8], played: Played, count: &mut [usize]) -> usize
+    requires { ⌜ Piece (now input) got (now text) (played .used) (now count) ⌝ }
+    ensures { λ r. ⌜ Moves r (played .left) 0 (counted (now (count .entry)) + played .used) (now (count .exit)) ⌝ }
 {
-    print(input, got, 0, text, used)
-}
-
-// What is left to play: nothing once a write has failed.
-fn left_over(w: Written, left: usize) -> usize
-    ensures { λ r. ⌜ ((w .failed ≡ true) × (r ≡ 0)) ⊎ ((w .failed ≡ false) × (r ≡ left)) ⌝ }
-{
-    if w.failed {
-        return 0;
-    }
-    left
+    write_piece(input, got, text, played.used, played.left, count)
 }
 
 // Plays the actions left over of an opened file and prints each piece. One reader is made, and it goes through them all.
@@ -78,7 +60,7 @@ pub fn play_all(
     start: usize,
     actions: usize,
     s: Session,
-    printed: usize,
+    count: &mut [usize],
     plan: &mut [u8],
     g: &mut [u32],
     rhs: &mut [u32],
@@ -89,17 +71,13 @@ pub fn play_all(
     list: &mut [u16],
     way: &mut [u16],
     text: &mut [u8],
-) -> Written
-    requires { ⌜ Printing (now input) got (now file) s (given plan g rhs parent k1 k2 place list) (now way) start actions (now text) printed ⌝ }
-    ensures { λ r. ⌜ WrittenTo r (length (output (now (file .entry)))) ⌝ }
+)
+    requires { ⌜ Printing (now input) got (now file) s (given plan g rhs parent k1 k2 place list) (now way) start actions (now text) (now count) ⌝ }
+    ensures { λ _. ⌜ WrittenTo (length (output (now (file .entry)))) (now (count .exit)) ⌝ }
 {
     let mut r = drill_file::reading(file, start);
     let mut session = s;
     let mut left = actions;
-    let mut written = Written {
-        bytes: printed,
-        failed: false,
-    };
     while 0 < left {
         let played = play::play(
             r,
@@ -116,10 +94,8 @@ pub fn play_all(
             way,
             text,
         );
-        written = print(input, got, written.bytes, text, played.used);
+        left = print(input, got, text, played, count);
         r = drill_file::moved_to(r, played.at);
-        left = left_over(written, played.left);
         session = played.session;
     }
-    written
 }

@@ -1,6 +1,5 @@
 -- A file begun and its first piece printed, and the parts of the tables that are lent.
 use mathlib.Core.Path.{_≡_, sym, ap, subst, _∙_}
-use mathlib.Core.Bool.{false, true≢false}
 use mathlib.Core.Logic.{inl, inr, ⊎-elim}
 use mathlib.Core.List.{List}
 use Prim.Native.Nat.{ℕ, _+_, _*_, _-_, _≤_}
@@ -10,14 +9,13 @@ use lib.ListN.{length, take, drop}
 use lib.Seq.{length-take-le}
 use Rattle.plan.proofs.MoveLaws.{area}
 use Rattle.tables.specs.Lent.{Lent, Tables, tables}
-use Rattle.drill_file.specs.File.{cellsIn}
+use Rattle.drill_file.specs.File.{cellsIn, actionsFrom}
 use Rattle.drill_file.proofs.FileLaws.{cells-few}
 use Rattle.drill.specs.declared.Played.{Played}
 use Rattle.drill.specs.Output.{output}
-use Rattle.drill.specs.Promises.{Playing, Begins, NextPiece}
+use Rattle.drill.specs.Promises.{stands, Playing, Begins, Unprinted, NextPiece}
 use Rattle.drill.proofs.PieceLaws.{from-start, all-printed, first-piece, first-printed, begun-long, begun-used, begun-playing}
-use Rattle.printing.specs.declared.Written.{Written}
-use Rattle.printing.specs.Promises.{Piece, Printing, WrittenTo}
+use Rattle.printing.specs.Promises.{counted, Piece, Moves, Printing, WrittenTo}
 use Rattle.runner.specs.Own.{Own, Running, mostCells}
 
 -- ---- the parts of the tables
@@ -34,14 +32,15 @@ pub parts-room : (file : List ℕ) {n : ℕ} → n ≡ cellsIn file → n ≤ mo
 parts-room file e = omega (arith, cells-few file)
 
 -- What was read can be run on the parts that it asks for.
-pub running : {plan g rhs parent k1 k2 place list way text : Lent} {input : List ℕ} {got : ℕ} {file : List ℕ} {n : ℕ} → got ≤ length input → file ≡ take got input
-    → Own plan g rhs parent k1 k2 place list way text → n ≡ cellsIn file
-    → Running input got file
+pub running : {plan g rhs parent k1 k2 place list way text : Lent} {input : List ℕ} {got : ℕ} {file : List ℕ} (count : List ℕ) {n : ℕ} → got ≤ length input → file ≡ take got input
+    → counted count ≡ 0 → Own plan g rhs parent k1 k2 place list way text → n ≡ cellsIn file
+    → Running input got file count
     (tables (part (4 * n) (now plan)) (part n (now g)) (part n (now rhs)) (part n (now parent)) (part n (now k1)) (part n (now k2)) (part n (now place)) (part n (now list)))
     (now way) (now text)
-running {plan} {g} {rhs} {parent} {k1} {k2} {place} {list} {file = file} {n} read is O e = record {
+running {plan} {g} {rhs} {parent} {k1} {k2} {place} {list} {file = file} count {n} read is none O e = record {
   read = read;
   part = is;
+  unwritten = none;
   opening = record {
     fits = record {
       plan = part-long (now plan) (4 * n) (omega (arith, l, O .plan-room)) ∙ ap (λ k. 4 * k) e;
@@ -64,29 +63,37 @@ running {plan} {g} {rhs} {parent} {k1} {k2} {place} {list} {file = file} {n} rea
 
 -- ---- a file begun
 
--- Where a write did not fail, its bytes are written.
-written : {w : Written} {n : ℕ} → w .failed ≡ false → WrittenTo w n → w .bytes ≡ n
-written f = ⊎-elim (λ t. absurd (true≢false (sym t ∙ f))) (λ e. e)
-
-module _ {input : List ℕ} {got : ℕ} {file : List ℕ} {t : Tables} {way text : List ℕ} {r : Played} {t′ : Tables} {text′ : List ℕ}
-    (R : Running input got file t way text) (B : Begins file t text r t′ text′) where
+module _ {input : List ℕ} {got : ℕ} {file count : List ℕ} {t : Tables} {way text : List ℕ} {r : Played} {t′ : Tables} {text′ : List ℕ}
+    (R : Running input got file count t way text) (B : Begins file t text r t′ text′) where
   -- What begin leaves in the text is the first piece of the output of what was read.
-  pub first-read : Piece input got 0 text′ (r .used)
-  first-read = record { read = R .read; put = begun-used B; next = subst (λ f. NextPiece f 0 (take (r .used) text′)) (R .part) (first-piece B) }
-
-  -- Once it is written: where nothing is left to play, all of the output is ..
-  pub whole-written : {w : Written} → r .left ≡ 0 → WrittenTo w (0 + r .used) → WrittenTo w (length (output file))
-  whole-written l = ⊎-elim inl (λ e. inr (all-printed (r .at) l (first-printed B e)))
-
-  -- .. else what is left to play can be played and printed.
-  pub rest-printing : {w : Written} → (r .left ≡ 0 → ⊥) → w .failed ≡ false → WrittenTo w (0 + r .used) → Printing input got file (r .session) t′ way (r .at) (r .left) text′ (w .bytes)
-  rest-printing n f W = record {
+  pub first-read : Piece input got text′ (r .used) count
+  first-read = record {
     read = R .read;
-    part = R .part;
-    playing = can-play;
-    text-room = omega (arith, R .text-room, begun-long B, area (can-play .sound .plan .size));
-    unprinted = first-printed B (written f W);
+    put = begun-used B;
+    next = subst (λ n. NextPiece (take got input) n (take (r .used) text′)) (sym (R .unwritten)) (subst (λ f. NextPiece f 0 (take (r .used) text′)) (R .part) (first-piece B));
   }
-    where
-      can-play : Playing file (r .session) t′ way (r .at) (r .left)
-      can-play = begun-playing B (omega (arith, n)) (R .way-room)
+
+  -- Once it is printed, or a write failed ..
+  module _ {left : ℕ} (count′ : List ℕ) (M : Moves left (r .left) 0 (counted count + r .used) count′) where
+    first-counted : counted count′ ≡ counted count + r .used → Unprinted file (counted count′) (stands (r .session) t′) (actionsFrom file (r .at) (r .left))
+    first-counted e = first-printed B (e ∙ ap (λ n. n + r .used) (R .unwritten))
+
+    -- .. and nothing is left to play, all of the output is written;
+    pub whole-written : left ≡ 0 → WrittenTo (length (output file)) count′
+    whole-written none = ⊎-elim (λ m. inl (all-printed (r .at) (sym (m .0) ∙ none) (first-counted (m .1)))) (λ f. inr (f .1)) M
+
+    -- .. else what is left can be played and printed.
+    pub rest-printing : (left ≡ 0 → ⊥) → Printing input got file (r .session) t′ way (r .at) left text′ count′
+    rest-printing some = ⊎-elim (λ m. subst (λ n. Printing input got file (r .session) t′ way (r .at) n text′ count′) (sym (m .0)) (goes-on (m .0) (m .1))) (λ f. absurd (some (f .0))) M
+      where
+        goes-on : left ≡ r .left → counted count′ ≡ counted count + r .used → Printing input got file (r .session) t′ way (r .at) (r .left) text′ count′
+        goes-on e moved = record {
+          read = R .read;
+          part = R .part;
+          playing = can-play;
+          text-room = omega (arith, R .text-room, begun-long B, area (can-play .sound .plan .size));
+          unprinted = first-counted moved;
+        }
+          where
+            can-play : Playing file (r .session) t′ way (r .at) (r .left)
+            can-play = begun-playing B (omega (arith, e, some)) (R .way-room)

@@ -7,6 +7,7 @@ use lib.ListN.{length, take}
 use Rattle.tables.specs.Lent.{Lent, Tables}
 use Rattle.lines.specs.Text.{room}
 use Rattle.drill.specs.Promises.{Opening}
+use Rattle.printing.specs.Promises.{counted}
 
 abbrev pub mostCells : ℕ
 mostCells = 4096
@@ -24,10 +25,11 @@ pub record Own (plan g rhs parent k1 k2 place list way text : Lent) : Type 0 whe
   pub way-room : length (now way) ≡ mostCells
   pub text-room : room mostCells ≤ length (now text)
 
--- A file can be run: it is the first `got` bytes of what was read, the tables have its size, and there is room for every way and every line.
-pub record Running (input : List ℕ) (got : ℕ) (file : List ℕ) (t : Tables) (way text : List ℕ) : Type 0 where
+-- A file can be run: it is the first `got` bytes of what was read, nothing is written yet, the tables have its size, and there is room for every way and every line.
+pub record Running (input : List ℕ) (got : ℕ) (file count : List ℕ) (t : Tables) (way text : List ℕ) : Type 0 where
   pub read : got ≤ length input
   pub part : file ≡ take got input
+  pub unwritten : counted count ≡ 0
   pub opening : Opening file t text
   pub way-room : mostCells ≤ length way
   pub text-room : room mostCells ≤ length text

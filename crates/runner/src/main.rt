@@ -3,11 +3,12 @@ use drill_file;
 use libc::STDIN_FILENO;
 use opening;
 use printing;
+ghost use mathlib.Core.Path.{_≡_};
 ghost use Prim.Native.Nat.{_≤_};
 ghost use lib.ListN.{length, take};
 ghost use Rattle.tables.specs.Lent.{given};
 ghost use Rattle.drill.specs.Output.{output};
-ghost use Rattle.printing.specs.Promises.{WrittenTo};
+ghost use Rattle.printing.specs.Promises.{counted, WrittenTo};
 ghost use Rattle.runner.specs.Own.{Own, Running};
 
 // Runs a file on tables of its size: prints what begin leaves in the text, then plays and prints what is left over.
@@ -15,6 +16,7 @@ fn run(
     input: &[u8],
     got: usize,
     file: &[u8],
+    count: &mut [usize],
     plan: &mut [u8],
     g: &mut [u32],
     rhs: &mut [u32],
@@ -25,26 +27,23 @@ fn run(
     list: &mut [u16],
     way: &mut [u16],
     text: &mut [u8],
-) -> printing::Written
-    requires { ⌜ Running (now input) got (now file) (given plan g rhs parent k1 k2 place list) (now way) (now text) ⌝ }
-    ensures { λ r. ⌜ WrittenTo r (length (output (now (file .entry)))) ⌝ }
+)
+    requires { ⌜ Running (now input) got (now file) (now count) (given plan g rhs parent k1 k2 place list) (now way) (now text) ⌝ }
+    ensures { λ _. ⌜ WrittenTo (length (output (now (file .entry)))) (now (count .exit)) ⌝ }
 {
     let begun = opening::begin(file, plan, g, rhs, parent, k1, k2, place, list, text);
-    let first = printing::print_first(input, got, text, begun.used);
-    if first.failed {
-        return first;
-    }
-    if begun.left == 0 {
-        return first;
+    let left = printing::print(input, got, text, begun, count);
+    if left == 0 {
+        return;
     }
     printing::play_all(
         input,
         got,
         file,
         begun.at,
-        begun.left,
+        left,
         begun.session,
-        first.bytes,
+        count,
         plan,
         g,
         rhs,
@@ -55,13 +54,14 @@ fn run(
         list,
         way,
         text,
-    )
+    );
 }
 
 // Runs the file that was read, on the parts of the tables that its size asks for.
 fn run_file(
     input: &[u8],
     got: usize,
+    count: &mut [usize],
     plan: &mut [u8],
     g: &mut [u32],
     rhs: &mut [u32],
@@ -72,10 +72,11 @@ fn run_file(
     list: &mut [u16],
     way: &mut [u16],
     text: &mut [u8],
-) -> printing::Written
+)
     requires { ⌜ got ≤ length (now input) ⌝ }
+    requires { ⌜ counted (now count) ≡ 0 ⌝ }
     requires { ⌜ Own plan g rhs parent k1 k2 place list way text ⌝ }
-    ensures { λ r. ⌜ WrittenTo r (length (output (take got (now (input .entry))))) ⌝ }
+    ensures { λ _. ⌜ WrittenTo (length (output (take got (now (input .entry))))) (now (count .exit)) ⌝ }
 {
     let file = printing::file_in(input, got);
     let n = drill_file::cells_in(file);
@@ -84,6 +85,7 @@ fn run_file(
         input,
         got,
         file,
+        count,
         &mut plan[0..m],
         &mut g[0..n],
         &mut rhs[0..n],
@@ -94,7 +96,7 @@ fn run_file(
         &mut list[0..n],
         way,
         text,
-    )
+    );
 }
 
 // Was the input read to its end? A read that fails looks like the end to read_full, so one more read has to find the end too.
@@ -114,6 +116,7 @@ fn run_input(fd: i32, name: &[u8]) {
         os::fail(name);
         return;
     }
+    let mut count = [0usize; 1];
     let mut plan = [255u8; 16384];
     let mut g = [4294967295u32; 4096];
     let mut rhs = [4294967295u32; 4096];
@@ -127,6 +130,7 @@ fn run_input(fd: i32, name: &[u8]) {
     run_file(
         &input,
         got,
+        &mut count,
         &mut plan,
         &mut g,
         &mut rhs,

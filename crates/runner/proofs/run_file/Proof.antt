@@ -9,6 +9,37 @@ use borrow.Author.Needs.{needs}
 use Rattle.runner.proofs.run_file.Statement.{statement}
 use Rattle.runner.proofs.run_file.Tie as tie
 
+-- The places that the answers look back to.
+abbrev at-start : tie.After-cells-in → tie.Start
+at-start c = c .before .before .before .before .before .before .before .before .before .before .before .before .before .before
+
+abbrev after-cells-in-for-sub-run-5 : tie.After-run-arg5 → tie.After-cells-in
+after-cells-in-for-sub-run-5 c = c .before .before .before .before .before
+
+abbrev after-cells-in-for-sub-run-6 : tie.After-run-arg6 → tie.After-cells-in
+after-cells-in-for-sub-run-6 c = after-cells-in-for-sub-run-5 (c .before)
+
+abbrev after-cells-in-for-sub-run-7 : tie.After-run-arg7 → tie.After-cells-in
+after-cells-in-for-sub-run-7 c = after-cells-in-for-sub-run-6 (c .before)
+
+abbrev after-cells-in-for-sub-run-8 : tie.After-run-arg8 → tie.After-cells-in
+after-cells-in-for-sub-run-8 c = after-cells-in-for-sub-run-7 (c .before)
+
+abbrev after-cells-in-for-run : tie.After-run-arg11 → tie.After-cells-in
+after-cells-in-for-run c = after-cells-in-for-sub-run-8 (c .before .before .before)
+
+abbrev after-k1 : tie.After-slice-known22 → tie.After-k1
+after-k1 c = c .before .before .before .before .before .before .before .before .before .before .before
+
+abbrev after-g : tie.After-slice-known22 → tie.After-g
+after-g c = after-k1 c .before .before .before .before .before .before
+
+abbrev after-run : tie.After-slice-known22 → tie.After-run
+after-run c = after-g c .before .before .before .before .before
+
+abbrev after-cells-in : tie.After-slice-known22 → tie.After-cells-in
+after-cells-in c = after-cells-in-for-run (after-run c .before)
+
 file-in-requires : tie.Need-file-in-requires
 file-in-requires c κs = search needs
 
@@ -25,9 +56,7 @@ part-run-start : tie.Need-part-run-start
 part-run-start c = search needs
 
 part-run-end : tie.Need-part-run-end
-part-run-end c =
-    let start = c .before .before .before .before .before .before .before .before .before .before .before .before .before in
-    omega (arith, parts-room _ (c .cells-in .ensures), start .pre .1 .plan-room)
+part-run-end c = omega (arith, parts-room _ (c .before .cells-in .ensures), at-start (c .before) .pre .1 .1 .plan-room)
 
 sub-run-2 : tie.Need-sub-run-2
 sub-run-2 c = search needs
@@ -36,10 +65,7 @@ part-run-start-2 : tie.Need-part-run-start-2
 part-run-start-2 c = search needs
 
 part-run-end-2 : tie.Need-part-run-end-2
-part-run-end-2 c =
-    let told = c .before in
-    let start = told .before .before .before .before .before .before .before .before .before .before .before .before .before in
-    omega (arith, parts-room _ (told .cells-in .ensures), start .pre .1 .g-room)
+part-run-end-2 c = omega (arith, parts-room _ (c .before .before .cells-in .ensures), at-start (c .before .before) .pre .1 .1 .g-room)
 
 sub-run-3 : tie.Need-sub-run-3
 sub-run-3 c = search needs
@@ -49,9 +75,7 @@ part-run-start-3 c = search needs
 
 part-run-end-3 : tie.Need-part-run-end-3
 part-run-end-3 c =
-    let told = c .before .before in
-    let start = told .before .before .before .before .before .before .before .before .before .before .before .before .before in
-    omega (arith, parts-room _ (told .cells-in .ensures), start .pre .1 .rhs-room)
+    omega (arith, parts-room _ (c .before .before .before .cells-in .ensures), at-start (c .before .before .before) .pre .1 .1 .rhs-room)
 
 sub-run-4 : tie.Need-sub-run-4
 sub-run-4 c = search needs
@@ -61,9 +85,11 @@ part-run-start-4 c = search needs
 
 part-run-end-4 : tie.Need-part-run-end-4
 part-run-end-4 c =
-    let told = c .before .before .before in
-    let start = told .before .before .before .before .before .before .before .before .before .before .before .before .before in
-    omega (arith, parts-room _ (told .cells-in .ensures), start .pre .1 .parent-room)
+    omega (
+      arith,
+      parts-room _ (c .before .before .before .before .cells-in .ensures),
+      at-start (c .before .before .before .before) .pre .1 .1 .parent-room,
+    )
 
 sub-run-5 : tie.Need-sub-run-5
 sub-run-5 c = search needs
@@ -73,9 +99,7 @@ part-run-start-5 c = search needs
 
 part-run-end-5 : tie.Need-part-run-end-5
 part-run-end-5 c =
-    let told = c .before .before .before .before in
-    let start = told .before .before .before .before .before .before .before .before .before .before .before .before .before in
-    omega (arith, parts-room _ (told .cells-in .ensures), start .pre .1 .k1-room)
+    omega (arith, parts-room _ (after-cells-in-for-sub-run-5 c .cells-in .ensures), at-start (after-cells-in-for-sub-run-5 c) .pre .1 .1 .k1-room)
 
 sub-run-6 : tie.Need-sub-run-6
 sub-run-6 c = search needs
@@ -85,9 +109,7 @@ part-run-start-6 c = search needs
 
 part-run-end-6 : tie.Need-part-run-end-6
 part-run-end-6 c =
-    let told = c .before .before .before .before .before in
-    let start = told .before .before .before .before .before .before .before .before .before .before .before .before .before in
-    omega (arith, parts-room _ (told .cells-in .ensures), start .pre .1 .k2-room)
+    omega (arith, parts-room _ (after-cells-in-for-sub-run-6 c .cells-in .ensures), at-start (after-cells-in-for-sub-run-6 c) .pre .1 .1 .k2-room)
 
 sub-run-7 : tie.Need-sub-run-7
 sub-run-7 c = search needs
@@ -97,9 +119,7 @@ part-run-start-7 c = search needs
 
 part-run-end-7 : tie.Need-part-run-end-7
 part-run-end-7 c =
-    let told = c .before .before .before .before .before .before in
-    let start = told .before .before .before .before .before .before .before .before .before .before .before .before .before in
-    omega (arith, parts-room _ (told .cells-in .ensures), start .pre .1 .place-room)
+    omega (arith, parts-room _ (after-cells-in-for-sub-run-7 c .cells-in .ensures), at-start (after-cells-in-for-sub-run-7 c) .pre .1 .1 .place-room)
 
 sub-run-8 : tie.Need-sub-run-8
 sub-run-8 c = search needs
@@ -109,41 +129,35 @@ part-run-start-8 c = search needs
 
 part-run-end-8 : tie.Need-part-run-end-8
 part-run-end-8 c =
-    let told = c .before .before .before .before .before .before .before in
-    let start = told .before .before .before .before .before .before .before .before .before .before .before .before .before in
-    omega (arith, parts-room _ (told .cells-in .ensures), start .pre .1 .list-room)
+    omega (arith, parts-room _ (after-cells-in-for-sub-run-8 c .cells-in .ensures), at-start (after-cells-in-for-sub-run-8 c) .pre .1 .1 .list-room)
 
 run-requires : tie.Need-run-requires
 run-requires c κs =
-    let told = c .before .before .before .before .before .before .before .before .before .before in
-    let start = told .before .before .before .before .before .before .before .before .before .before .before .before .before in
-    running (start .pre .0) (told .before .file-in .ensures) (start .pre .1) (told .cells-in .ensures)
+    running
+    (at-start (after-cells-in-for-run c) .args .count .now)
+    (at-start (after-cells-in-for-run c) .pre .0)
+    (after-cells-in-for-run c .before .file-in .ensures)
+    (at-start (after-cells-in-for-run c) .pre .1 .0)
+    (at-start (after-cells-in-for-run c) .pre .1 .1)
+    (after-cells-in-for-run c .cells-in .ensures)
 
 same-length : tie.Need-same-length
-same-length c =
-    let ran = c .before .before .before .before .before .before .before .before .before .before .before .before .before .before .before .before .before .before .before .before in
-    omega (arith, c .before .before .before .before .before .before .before .before .before .before .before .before .before .before .before .before .before .before .before .plan, ran .run)
+same-length c = omega (arith, after-g c .before .before .before .before .count, after-run c .run)
 
 same-length-2 : tie.Need-same-length-2
-same-length-2 c =
-    let ran = c .before .before .before .before .before .before .before .before .before .before .before .before .before .before .before .before .before .before .before .before in
-    omega (arith, c .before .before .before .before .before .before .before .before .before .before .before .before .before .before .before .before .before .g, ran .run)
+same-length-2 c = omega (arith, after-g c .before .before .plan, after-run c .run)
 
 same-length-3 : tie.Need-same-length-3
-same-length-3 c =
-    let ran = c .before .before .before .before .before .before .before .before .before .before .before .before .before .before .before .before .before .before .before .before in
-    omega (arith, c .before .before .before .before .before .before .before .before .before .before .before .before .before .before .before .rhs, ran .run)
+same-length-3 c = omega (arith, after-g c .g, after-run c .run)
 
 same-length-4 : tie.Need-same-length-4
-same-length-4 c =
-    let ran = c .before .before .before .before .before .before .before .before .before .before .before .before .before .before .before .before .before .before .before .before in
-    omega (arith, c .before .before .before .before .before .before .before .before .before .before .before .before .before .parent, ran .run)
+same-length-4 c = omega (arith, after-k1 c .before .before .before .before .rhs, after-run c .run)
 
 same-length-5 : tie.Need-same-length-5
-same-length-5 c = search needs
+same-length-5 c = omega (arith, after-k1 c .before .before .parent, after-run c .run)
 
 same-length-6 : tie.Need-same-length-6
-same-length-6 c = search needs
+same-length-6 c = omega (arith, after-k1 c .k1, after-run c .run)
 
 same-length-7 : tie.Need-same-length-7
 same-length-7 c = search needs
@@ -157,12 +171,15 @@ same-length-9 c = search needs
 same-length-10 : tie.Need-same-length-10
 same-length-10 c = search needs
 
+same-length-11 : tie.Need-same-length-11
+same-length-11 c = search needs
+
 returns : tie.Need-returns
 returns c =
-    let ran = c .before .before .before .before .before .before .before .before .before .before .before .before .before .before .before .before .before .before .before .before in
-    let lent = ran .before .before .before .before .before .before .before .before .before .before .before .before in
-    let w = ran .run .result in
-    subst (λ f. WrittenTo w (length (output f))) (lent .file-in .ensures) (ran .run .ensures)
+    subst
+    (λ f. WrittenTo (length (output f)) (after-run c .run .last .1 .1 .1 .0))
+    (after-cells-in c .before .file-in .ensures)
+    (after-run c .run .ensures)
 
 pub run-file-spec : {M : Type 1} → statement M
 run-file-spec =
@@ -206,4 +223,5 @@ run-file-spec =
     same-length-8
     same-length-9
     same-length-10
+    same-length-11
     returns)
