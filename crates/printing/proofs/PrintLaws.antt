@@ -1,4 +1,4 @@
--- A piece played is the next of the output, and once it is printed what is left over can be played and printed in turn.
+-- How the count moves on; a piece played is the next of the output, and once it is printed what is left over can be played and printed in turn.
 use mathlib.Core.Path.{_≡_, refl, sym, ap, subst, _∙_}
 use mathlib.Core.Logic.{_⊎_, inl, inr, ⊎-elim}
 use mathlib.Core.List.{List, [], _∷_}
@@ -20,7 +20,7 @@ use Rattle.printing.specs.Promises.{failed, counted, Piece, Moves, Print
 -- ---- the count
 
 module _ {input : List ℕ} {got : ℕ} {text : List ℕ} {used : ℕ} (count : List ℕ) (P : Piece input got text used count) where
-  -- Where a piece is the next, there is a count, and no write has failed.
+  -- Where a piece is the next, there is a count ..
   pub is-counted : 0 < length count
   is-counted = by-length count (P .next .within)
     where
@@ -28,6 +28,7 @@ module _ {input : List ℕ} {got : ℕ} {text : List ℕ} {used : ℕ} (count : 
       by-length [] h = absurd (omega (arith, h, output-few (take got input)))
       by-length (n ∷ l) h = omega arith
 
+  -- .. and no write has failed: after one, no piece is the next.
   pub none-after-failure : counted count ≡ failed → ⊥
   none-after-failure e = omega (arith, e, P .next .within, output-few (take got input))
 

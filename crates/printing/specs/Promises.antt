@@ -14,7 +14,7 @@ use Rattle.drill.specs.Promises.{stands, Playing, Unprinted, NextPiece}
 abbrev pub failed : ℕ
 failed = 18446744073709551615
 
--- The count tells how many bytes of the output are written. It stands in lent memory, and the one function that writes moves it on: so no caller can tell an old one.
+-- How many bytes of the output are written, as the count tells: one number in lent memory, which the function that writes moves on, so that no piece can be written again under an old count.
 abbrev pub counted : List ℕ → ℕ
 counted count = getD count 0 failed
 

@@ -28,7 +28,7 @@ use contract.Lifetimes.{Lfts, Shares}
 use contract.Monad.{Fun, fact}
 use contract.Running.{givenOf, tables as tablesAt, tablesOf}
 use types.Kit.{Given, Sq, Item, ‵, raw, mean, _⊛_, given, ⋆, some, later, Post as WalkPost, anyQ, post, atRet, runs, params′, _$_, _∵_, !, qed, by, move, group, drop, use1, use2, use3, split, join}
-use types.Kit.{pick, learn, rewrite, check, fsplit, fjoin, feqI, feqL, suffices, frame, await, updating, now as at-once, show, done}
+use types.Kit.{pick, learn, rewrite, fsplit, fjoin, feqI, feqL, suffices, frame, await, updating, now as at-once, show, done}
 use types.Part.{whole, sub, look-in, agg}
 use types.Run.{look, init, store, forget, stop, hop, fld, from, load, lit, unit-lit, of-opd, bin, addr, and-then, no-more, assigns, assigns-last, land, exec, returns, again, Below, enter, params1}
 use types.Run.{pass1, pass0, free1, free0}
