@@ -1,5 +1,7 @@
 """Writes crates/play/proofs/TenTables.antt, and names the ten tables for the walks of `play` and `play_all`. Run it again by `tools/walks` after a change."""
-from walk import Walk, chain, filled, nest, proj, sub
+from walk import Walk, cell, chain, filled, nest, proj, slice_typed, sub
+
+PATH = 'crates/play/proofs/TenTables.antt'
 
 NAMES = ['plan', 'g', 'rhs', 'parent', 'k1', 'k2', 'place', 'list', 'way', 'text']
 ROWS = ['u8', 'u32', 'u32', 'u8', 'u32', 'u32', 'u16', 'u16', 'u16', 'u8']
@@ -10,6 +12,43 @@ lft = lambda i: 'κ' + sub(i + 1)
 share = lambda i: 'q' + sub(i + 1)
 life = lambda i: 'ν' + sub(i + 1)
 name = lambda i: 'δ' + sub(i + 1)
+
+
+# ---- the ten in the walk of a function that is passed them: from the local `table` on, under the lifetimes from `first` on, as the arguments from `argument` on
+slice_of = lambda i: f'sliceVal (ten .{NAMES[i]} .ptr) (length (lists₀ .{NAMES[i]}))'
+SLICES = [slice_of(i) for i in TEN]
+LIVES = [f'(N .{life(i)} ∷ [])' for i in TEN]
+TYPED = [slice_typed(f'rooms .{n} .0') for n in NAMES]
+
+
+def locals_of(table, again, first):
+    """The types and values of the tables passed, and the types of those lent again: a pointer and a slice of each."""
+    types = {table + i: f'(lent (named {first + i}) {WIDTHS[i]})' for i in TEN}
+    types |= {again + 2 * i: f'(tyRef erased mut (tyInt {WIDTHS[i]}))' for i in TEN}
+    types |= {again + 2 * i + 1: f'(lent erased {WIDTHS[i]})' for i in TEN}
+    return types, {table + i: slice_of(i) for i in TEN}
+
+
+def lent_again(w, table, again):
+    """Each is lent again."""
+    w.note('the ten tables are lent again')
+    for i in TEN:
+        w.lends(cell(table + i), cell(again + 2 * i), cell(again + 2 * i + 1), f'rooms .{NAMES[i]} .0')
+
+
+def slices_again(w, again):
+    return [w.load(cell(again + 2 * i + 1)) for i in TEN]
+
+
+own_of = lambda first: [f'MutSlice (named {first + i}) ({proj("κs", first + i)}) {ROWS[i]}' for i in TEN]
+stay_of = lambda first: [f'stay-slice ({first + i} ∷ []) tt (plain (λ _. {ROWS[i]}))' for i in TEN]
+go_of = lambda lives, first: [f'goes-slice 𝓤 H A W {lives} {first + i} tt (plain (λ _. {ROWS[i]}))' for i in TEN]
+tell_of = lambda first: [f'mut-slice-tells (named {first + i}) ({proj("κs", first + i)}) {ROWS[i]}' for i in TEN]
+
+
+def record_of(tuple_, argument, then=''):
+    """The ten of a function's arguments, or of what is said of each, as a record."""
+    return 'record { ' + ' '.join(f'{NAMES[i]} = {proj(tuple_, argument + i)}{then};' for i in TEN) + ' }'
 
 
 def fseps(xs, end):
@@ -159,8 +198,7 @@ def holds(w):
     w.raw('done !')
 
 
-def write(folder):
-    t = open(folder + '/tools/ten_tables.tmpl').read()
+def written(template):
     fields = lambda ty: '\n'.join(f'  pub {NAMES[i]} : {ty(i)}' for i in TEN)
     parts = {
         'LISTS': fields(lambda i: 'List ℕ'),
@@ -191,4 +229,4 @@ def write(folder):
         'LENDS': lends_ten(),
         'REGAINS': regains_ten(),
     }
-    open(folder + '/crates/play/proofs/TenTables.antt', 'w').write(filled(t, parts))
+    return filled(template, parts)

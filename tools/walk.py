@@ -111,6 +111,77 @@ def wrapped(text, width=WIDTH):
     return '\n'.join(out)
 
 
+class Locals:
+    """The locals of a function, by number: the type of each, and the value of each that may hold something."""
+
+    def __init__(self, types, values):
+        self.types, self.values, self.n = types, values, len(types)
+
+    def places(self):
+        return ' '.join(place(i) for i in range(self.n))
+
+    def env(self):
+        return ' ∷ '.join(f'({self.types[i]}, {place(i)})' for i in range(self.n)) + ' ∷ []'
+
+    def room(self, i):
+        return f'‵ (froom {self.types[i]} {place(i)} 0)'
+
+    def dies(self, i):
+        return f'‵ (fdies {self.types[i]} {place(i)})'
+
+    def held(self, i):
+        return f'‵ (fat fullShare {self.types[i]} {place(i)} 0 ({self.values[i]}))'
+
+    def context(self, beside, full):
+        """What stands beside the locals, and then each of them, the last first."""
+        return ' ∷ '.join(beside + [self.held(i) if cell(i) in full else self.room(i) for i in reversed(range(self.n))]) + ' ∷ []'
+
+    def parts(self, passed):
+        """What every template with a loop asks for."""
+        allocated = [x for i in reversed(range(self.n)) for x in (self.room(i), self.dies(i))]
+        return {
+            'LS': self.places(),
+            'ENV': self.env(),
+            'DEATHS': chain([self.dies(i) for i in range(self.n)]),
+            'BEGCTX': self.context(['Tokens', '‵ Owned', 'Deaths'], passed),
+            'ROOMSCTX': ' ∷ '.join(allocated + ['Tokens', '‵ Owned']) + ' ∷ []',
+            'WALK': self.entered(),
+        }
+
+    def entered(self):
+        """The function is entered and its locals are allocated."""
+        w = Walk(8)
+        w.raw('qed W (Tokens ∷ ‵ Owned ∷ []) ∵ enter ! C Λ code.function values Post $')
+        w.raw('allocates ! (code.function .locals) (Tokens ∷ ‵ Owned ∷ []) (λ E. params′ E values (runs C Λ E (code.function .body) (atRet E Post)))')
+        w.raw(f'(λ {self.places()}. stored {self.places()})')
+        return w.text()
+
+    def stored(self, typed):
+        """The arguments are stored in the first locals; `typed` says of each that it has its type."""
+        w = Walk(10)
+        w.ctx = [x for i in reversed(range(self.n)) for x in (cell(i), f'd{i}')] + ['alive', 'owns']
+        w.step('params1 !')
+        for i, t in enumerate(typed, 1):
+            w.step('pass1 ! ' + w.write(cell(i), t))
+        w.step('pass0 !')
+        w.move(*[f'd{i}' for i in range(self.n)])
+        w.takes(f'group ! {self.n}', self.n, 'deaths')
+        w.move('alive', 'owns', 'deaths')
+        assert w.ctx == ['alive', 'owns', 'deaths'] + [cell(i) for i in reversed(range(self.n))]
+        w.raw('begins')
+        return w.text()
+
+
+def word_typed(fits):
+    """A number has its type."""
+    return f'(tt, record {{ fits = {fits} }})'
+
+
+def slice_typed(fits):
+    """A slice that is lent has its type."""
+    return f'(tt, (tt, (record {{ fits = {fits} }}, tt)))'
+
+
 class Walk:
     """A walk: `ctx` names what stands in the context, `full` the cells that hold something."""
 
@@ -206,6 +277,24 @@ class Walk:
         self.move(a, b)
         self.takes('fjoin !', 2, to)
 
+    def nothing(self, n):
+        self.step('nothing !')
+        self.push(n)
+
+    def frames(self):
+        """What stands first is what the goal asks for first."""
+        self.step('frame !')
+        self.pop()
+
+    def frames_joined(self, a, b):
+        self.join(a, b, 'z')
+        self.frames()
+
+    def joins(self, owned):
+        """What is owned is made, and joined to what stands first."""
+        self.step(owned)
+        self.takes('fjoin !', 0)
+
     # ---- loads, stores, locals
     def load(self, c):
         return f'(load ! (from ! (stop !)) (look ! {self.at(c)} refl))'
@@ -230,6 +319,11 @@ class Walk:
     def land(self, c, typed):
         self.step(f'land ! (from ! (stop !)) {self.write(c, typed)}')
 
+    def lends(self, table, pointer, again, fits):
+        """A slice passed is lent again, or shared: its pointer and its length, in a slice of its own."""
+        self.assign(pointer, f'(addr ! (from ! (fld ! refl (hop ! (look-in ! {self.at(table)} (sub ! 0 refl (whole !))) (stop !)))))', '(tt, tt)')
+        self.assign(again, f'(agg ! {self.operands([self.load(pointer), self.field(table, 1)])})', slice_typed(fits))
+
     def forget(self, c):
         self.step(f'forget ! {self.at(c)} refl')
         self.full.discard(c)
@@ -241,6 +335,60 @@ class Walk:
         self.split('z', 'pre', 'own')
         self.opens(f'calls-at ! fm ({contract} 𝓤 H A mem run) {known} {to} {self.operands(operands())} (λ {result}.')
         self.now('post')
+
+    def puts_reader(self, into, typ, tok, gives, at, fits, u, e):
+        """What a reader's function gives is a reader at that place, and it lands."""
+        self.takes(f'use1 W (later (given ({u} ≡ mach s {at}) {tok})) ({gives} {u})', 1, 'tok')
+        self.step('await ! tt')
+        self.opens(f'learn ! (λ {e}.')
+        self.land(cell(into), f'(typed-at {at} {fits} {u} {e})')
+        self.told(into, typ, e)
+
+    def takes_action(self, into, tok, kind, action, gives, u, told):
+        """`next` gives an action, and it lands."""
+        self.takes(f'use1 W (later ({tok} ⊛ ‵ ({kind}.the-row .own {action} ({u} ∷ [])))) ({gives} {u})', 1, 'z')
+        self.step('await ! tt')
+        self.split('z', 'tok', 'act')
+        self.move('act')
+        self.opens(f'peeks ! {kind}.the-row (Is {kind}.the-row) (shows 𝓤 H A {kind}.the-row) {action} ({u} ∷ []) (λ {told}.')
+        self.land(cell(into), f'(EL.lawful {kind}.the-type {kind}′.the-laws 𝓤 H A W tt .typed {action} _ {told} .0)')
+
+    def hears(self, callee, at, result, kind, owned, alive, said, told, drops):
+        """What a callee has ensured: its result, the lists that it leaves, and its promise. What it says of its first parameters is dropped."""
+        self.step(f'use1 W (later (some (λ ({result} : {kind}). ({alive} ⊛ ‵ ({owned})) ⊛ raw (ensured 𝓤 H A {callee}.ended ({callee}.clauses 𝓤 H A mem run) {at} tt {result})))) (id⊢ 𝓤 _)')
+        self.step('await ! tt')
+        self.opens(f'pick ! (λ {result}.')
+        self.split('post', 'given', 'ensured')
+        self.move('ensured')
+        self.step(f'use1 W (some (λ (ws : Lasts {callee}.ended {at}). ‵ (lasts {callee}.ended {at} ws) ⊛ raw (fact 𝓤 ({said})))) (id⊢ 𝓤 _)')
+        self.opens('pick ! (λ ws.')
+        self.split('ensured', 'lasts', 'fact')
+        self.move('fact')
+        self.opens(f'heard ! ({said}) (λ {told}.')
+        self.pop()
+        for n in drops:
+            self.fsplit('lasts', n, 'lasts')
+            self.drop(n)
+
+    def peeks(self, row, result, u):
+        """The machine value of a callee's result."""
+        self.split('given', 'alive', 'result')
+        self.move('result')
+        self.opens(f'peeks ! {row} (Is {row}) (shows 𝓤 H A {row}) {result} ({u} ∷ []) (λ is.')
+        self.drop('result')
+
+    def back(self, full, order):
+        """The locals of one turn are forgotten, and the context is in its order again."""
+        for c in sorted(self.full - full, key=lambda c: int(c[1:])):
+            self.forget(c)
+        self.move(*[n for n in order if not n[1:].isdigit()])
+        assert self.ctx == order, self.ctx
+
+    def returns(self, n, *left):
+        """The result is returned and each local freed."""
+        self.step(f'returns ! (look ! {self.at(cell(0))} refl)')
+        self.frees_all(n)
+        self.move(*left)
 
     def now(self, n):
         """What stands first is now n."""

@@ -1,18 +1,28 @@
 """Writes crates/drill_file/proofs/well_formed/Proof.antt, the walk of `drill_file::well_formed`, from well_formed.tmpl. Run it again by `tools/walks` after a change."""
-from walk import Walk, cell, filled, place
+from walk import Locals, Walk, cell, filled, place, word_typed
+
+PATH = 'crates/drill_file/proofs/well_formed/Proof.antt'
 
 # ---- the locals, as `rt mir drill_file` shows them: 0 the result; 1 the file, 2 the place and 3 the number of the actions passed; then the reader, the actions left, the test, whether the action is bad, the action, the reader read, the reader moved on
 READER, LEFT, TEST, BAD, ACTION, READ, MOVED = range(4, 11)
-N = 11
 
-PLACES = ' '.join(place(i) for i in range(N))
 TYPES = {0: 'tyBool', 1: 'slice', 2: 'word', 3: 'word', READER: 'reader', LEFT: 'word', TEST: 'tyBool', BAD: 'tyBool', ACTION: 'action', READ: 'reader', MOVED: 'reader'}
 VALUES = {1: 'v s', 2: 'vint w64 start', 3: 'vint w64 actions', READER: 'mach s (x .at)', LEFT: 'vint w64 (x .left)'}
+LOCALS = Locals(TYPES, VALUES)
+N, PLACES = LOCALS.n, LOCALS.places()
 READS = '𝓤 H A W mem run κ q s'
 TOK = '(‵ (flft κ q) ⊛ ‵ ftrue)'
 OWN = f'‵ (Own {READS})'
 ACT = '(actionAt (now s) (x .at))'
 ORDER = ['own', 'tok'] + [x for i in reversed(range(N)) for x in (cell(i), f'd{i}')]
+
+
+def answers(w, answer, returns):
+    """The answer is returned and each local freed."""
+    w.assign(cell(0), f'(of-opd ! ({answer}-lit !))', '(tt, tt)')
+    w.step(f'{returns} (look ! {w.at(cell(0))} refl)')
+    w.frees(N)
+    w.keep('tok', 'own')
 
 
 def walk():
@@ -25,19 +35,15 @@ def walk():
     w.step('alloc0 !')
     w.step('params1 !')
     w.step('pass1 ! ' + w.write(cell(1), '(shr-slice-lawful 𝓤 H A W (named 0) κ u8 .typed s (v s ∷ []) p .0)'))
-    w.step('pass1 ! ' + w.write(cell(2), '(tt, record { fits = start-fits })'))
-    w.step('pass1 ! ' + w.write(cell(3), '(tt, record { fits = actions-fits })'))
+    w.step('pass1 ! ' + w.write(cell(2), word_typed('start-fits')))
+    w.step('pass1 ! ' + w.write(cell(3), word_typed('actions-fits')))
     w.step('pass0 !')
     w.fsplit('owns', 'own', 'numbers')
     w.drop('numbers')
     w.note('`reading`')
     w.reads(OWN, f'goes-reading {READS} start start-fits', 'Reading', 'known-reading', f'(to-reading {READS} start)', lambda: [w.load(cell(1)), w.load(cell(2))], 'u')
-    w.takes(f'use1 W (later (given (u ≡ mach s start) {TOK})) (gives-reading {READS} start u)', 1, 'tok')
-    w.step('await ! tt')
-    w.opens('learn ! (λ e.')
-    w.land(cell(READER), '(typed-at start start-fits u e)')
-    w.told(READER, TYPES[READER], 'e')
-    w.assign(cell(LEFT), f'(of-opd ! {w.load(cell(3))})', '(tt, record { fits = actions-fits })')
+    w.puts_reader(READER, TYPES[READER], TOK, f'gives-reading {READS} start', 'start', 'start-fits', 'u', 'e')
+    w.assign(cell(LEFT), f'(of-opd ! {w.load(cell(3))})', word_typed('actions-fits'))
     w.note('the loop')
     w.keep(*ORDER)
     w.opens(f'looping ! 𝓣 Less falls (Inv {PLACES}) (λ x.')
@@ -48,12 +54,7 @@ def walk():
     w.note('`next`')
     w.assign(cell(READ), f'(of-opd ! {w.load(cell(READER))})', f'(typed {READS} p (x .at) (in-file x))')
     w.reads(OWN, f'goes-next {READS} (x .at) (in-file x)', 'Next', 'known-next', f'(to-next {READS} (x .at))', lambda: [w.load(cell(READ))], 'u₁')
-    w.takes(f'use1 W (later ({TOK} ⊛ ‵ (S.the-row .own {ACT} (u₁ ∷ [])))) (gives-next {READS} (x .at) u₁)', 1, 'z')
-    w.step('await ! tt')
-    w.split('z', 'tok', 'act')
-    w.move('act')
-    w.opens(f'peeks ! S.the-row (Is S.the-row) (shows 𝓤 H A S.the-row) {ACT} (u₁ ∷ []) (λ is₁.')
-    w.land(cell(ACTION), f'(EL.lawful S.the-type S′.the-laws 𝓤 H A W tt .typed {ACT} _ is₁ .0)')
+    w.takes_action(ACTION, TOK, 'S', ACT, f'gives-next {READS} (x .at)', 'u₁', 'is₁')
     w.note('`is_bad`')
     w.step('use1 W (raw (IsBad 𝓤 H A mem run .pre (to-bad (x .at) u₁))) (goes-bad (x .at) u₁)')
     w.opens(f'calls-at ! fm (IsBad 𝓤 H A mem run) known-bad (to-bad (x .at) u₁) {w.operands([w.load(cell(ACTION))])} (λ u₂.')
@@ -65,21 +66,14 @@ def walk():
     w.told(BAD, TYPES[BAD], 'e₂')
     forked = list(w.ctx), set(w.full)
     w.opens(f'forks ! (isBad {ACT}) {w.load(cell(BAD))} (λ bad.')
-    w.assign(cell(0), '(of-opd ! (false-lit !))', '(tt, tt)')
-    w.step(f'returns-within ! Post refl (look ! {w.at(cell(0))} refl)')
-    w.frees(N)
-    w.keep('tok', 'own')
+    answers(w, 'false', 'returns-within ! Post refl')
     w.raw('by ! (exits false (sym (stops-here x held bad))))')
     w.note('`moved`')
     w.raw('(λ good.')
     w.ctx, w.full = forked
     w.assign(cell(MOVED), f'(of-opd ! {w.load(cell(READER))})', f'(typed {READS} p (x .at) (in-file x))')
     w.reads(OWN, f'goes-moved {READS} (x .at) (in-file x) (next-in-file x held)', 'Moved', 'known-moved', f'(to-moved {READS} (x .at))', lambda: [w.load(cell(MOVED))], 'u₃')
-    w.takes(f'use1 W (later (given (u₃ ≡ mach s (x .at + 5)) {TOK})) (gives-moved {READS} (x .at) u₃)', 1, 'tok')
-    w.step('await ! tt')
-    w.opens('learn ! (λ e₃.')
-    w.land(cell(READER), '(typed-at (x .at + 5) (next-in-file x held) u₃ e₃)')
-    w.told(READER, TYPES[READER], 'e₃')
+    w.puts_reader(READER, TYPES[READER], TOK, f'gives-moved {READS} (x .at)', '(x .at + 5)', '(next-in-file x held)', 'u₃', 'e₃')
     w.step(f'assigns-last ! (bin ! {w.load(cell(LEFT))} (lit ! tt) (some-left x held)) (from ! (stop !)) (store ! {w.at(cell(LEFT))} refl (tt, record {{ fits = less-fits x held }}))')
     for i in (TEST, BAD, ACTION, READ, MOVED):
         w.forget(cell(i))
@@ -90,35 +84,15 @@ def walk():
     w.raw('(λ failed.')
     w.ctx, w.full = tested
     w.step(f'exec ! C Λ (Env-of {PLACES}) t-4 (atRet (Env-of {PLACES}) Post)')
-    w.assign(cell(0), '(of-opd ! (true-lit !))', '(tt, tt)')
-    w.step(f'returns ! (look ! {w.at(cell(0))} refl)')
-    w.frees(N)
-    w.keep('tok', 'own')
+    answers(w, 'true', 'returns !')
     w.raw('by ! (exits true (sym (ends-here x failed)))))')
     w.close -= 1
     w.raw('(record { at = start; left = actions; same = refl; place = refl })')
     return w.text()
 
 
-def write(folder):
-    parts = []
-    for n in ORDER:
-        i = int(n[1:]) if n[1:].isdigit() else None
-        if n == 'own':
-            parts.append(OWN)
-        elif n == 'tok':
-            parts.append(TOK)
-        elif n[0] == 'd':
-            parts.append(f'‵ (fdies {TYPES[i]} {place(i)})')
-        elif i in VALUES:
-            parts.append(f'‵ (fat fullShare {TYPES[i]} {place(i)} 0 ({VALUES[i]}))')
-        else:
-            parts.append(f'‵ (froom {TYPES[i]} {place(i)} 0)')
-    t = open(folder + '/tools/well_formed.tmpl').read()
-    text = filled(t, {
-        'WALK': walk(),
-        'INV': ' ∷ '.join(parts) + ' ∷ []',
-        'ENV': ' ∷ '.join(f'({TYPES[i]}, {place(i)})' for i in range(N)) + ' ∷ []',
-        'LS': PLACES,
-    })
-    open(folder + '/crates/drill_file/proofs/well_formed/Proof.antt', 'w').write(text)
+def written(template):
+    beside = {'own': OWN, 'tok': TOK}
+    beside |= {cell(i): LOCALS.held(i) if i in VALUES else LOCALS.room(i) for i in range(N)}
+    beside |= {f'd{i}': LOCALS.dies(i) for i in range(N)}
+    return filled(template, {'WALK': walk(), 'INV': ' ∷ '.join(beside[n] for n in ORDER) + ' ∷ []', 'ENV': LOCALS.env(), 'LS': PLACES})
