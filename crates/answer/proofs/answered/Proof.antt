@@ -1,3 +1,4 @@
+-- The three returns: cut off, none, or the way, whose cells `write_way` has written (`way-told` in AnswerLaws).
 use native.Mathlib.Omega.{arith}
 use borrow.Author.Tests.{not-true, not-false}
 use Rattle.answer.specs.Answer.{cut-off, none-there}

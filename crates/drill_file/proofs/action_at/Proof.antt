@@ -1,3 +1,4 @@
+-- Beyond the end the action is badly formed; else its five bytes are read (`chosen`, `passed-by` in FileLaws).
 use mathlib.Core.Path.{refl}
 use native.Mathlib.Omega.{arith}
 use Rattle.drill_file.specs.File.{actionAt}

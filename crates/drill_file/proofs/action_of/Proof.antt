@@ -1,3 +1,4 @@
+-- Each return is the definition's case for the tests that lead there (`chosen`, `passed-by` in FileLaws).
 use mathlib.Core.Path.{refl}
 use native.Mathlib.Omega.{arith}
 use Rattle.drill_file.specs.File.{actionOf}

@@ -1,3 +1,4 @@
+-- The rules of a file's form in their order, each return the definition's case for the tests that lead there (FileLaws).
 use mathlib.Core.Path.{refl, sym, _∙_}
 use mathlib.Core.Bool.{false≢true}
 use native.Mathlib.Omega.{arith}

@@ -1,3 +1,4 @@
+-- The one variant that is badly formed, and the others (`not-bad` in FileLaws).
 use borrow.Author.Needs.{needs}
 use Rattle.drill_file.specs.File.{isBad}
 use Rattle.drill_file.proofs.FileLaws.{not-bad}

@@ -1,3 +1,4 @@
+-- Each field is read at its place among the last 12 bytes.
 use Prim.Native.Nat.{_+_, _-_}
 use native.Mathlib.Omega.{arith}
 use lib.ListN.{length}

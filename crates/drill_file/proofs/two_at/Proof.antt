@@ -1,3 +1,4 @@
+-- Two bytes make a number below 65,536: no sum passes its width.
 use Prim.Native.Nat.{_+_}
 use native.Mathlib.Omega.{arith}
 use borrow.Author.Needs.{needs}

@@ -1,3 +1,4 @@
+-- The tables' rules by the promise of `table_refusal`, then the room for the way (RefusalLaws of `session`).
 use native.Mathlib.Omega.{arith}
 use Rattle.plan.proofs.MoveLaws.{area}
 use Rattle.session.specs.Refusals.{fails, holds, passed}

@@ -1,3 +1,4 @@
+-- Refused with the number that `refusal` found and nothing changed; else the tables are sound and `search_sound` keeps the promise (`search-granted` in RefusalLaws).
 use mathlib.Core.Path.{refl}
 use Rattle.search.proofs.RefusalLaws.{search-granted}
 use borrow.Author.Needs.{needs}

@@ -1,3 +1,4 @@
+-- Caught, or taken over, run and answered: each part has the method's tables and answer by its own promise, and SearchLaws puts them together (`searched`).
 use mathlib.Core.Path.{refl, sym, _∙_}
 use native.Mathlib.Omega.{arith}
 use Rattle.search.proofs.SearchLaws.{searched-caught, run-aimed, run-started, few-searches, answering, long-after, searched}

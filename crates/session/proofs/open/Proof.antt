@@ -1,3 +1,4 @@
+-- Refused with the number that `open_refusal` found and nothing changed; else a fresh start can be made (`open-granted` in RefusalLaws), which `begin` makes.
 use mathlib.Core.Path.{refl}
 use Rattle.session.proofs.RefusalLaws.{refusal-told, done-told, open-granted}
 use borrow.Author.Needs.{needs}

@@ -1,3 +1,4 @@
+-- The rules of an open in their order: the cells by the tests here, each other rule by the promise of the function that asks it.
 use native.Mathlib.Omega.{arith}
 use borrow.Author.Tests.{not-true, not-false}
 use Rattle.decide.proofs.DecideLaws.{refuted}

@@ -1,3 +1,4 @@
+-- The two rules in their order: the size by the promise of `is_size`, then the cell.
 use native.Mathlib.Omega.{arith}
 use borrow.Author.Tests.{not-true, not-false}
 use Rattle.decide.proofs.DecideLaws.{refuted}

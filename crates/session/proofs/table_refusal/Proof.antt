@@ -1,3 +1,4 @@
+-- The three rules in their order, each by the promise of the function that asks it: size, lengths, soundness.
 use Rattle.decide.proofs.DecideLaws.{refuted}
 use borrow.Author.Tests.{not-true, not-false}
 use Rattle.session.specs.Refusals.{fails, holds, passed}

@@ -1,3 +1,4 @@
+-- A number above 255 is told as 0, any other as itself (NumberLaws).
 use Rattle.station.proofs.NumberLaws.{no-byte, a-byte}
 use borrow.Author.Needs.{needs}
 use Rattle.station.proofs.byte_of.Statement.{statement}

@@ -1,3 +1,4 @@
+-- The record of a refusal, field by field.
 use mathlib.Core.Path.{refl}
 use Rattle.station.proofs.refused.Statement.{statement}
 use Rattle.station.proofs.refused.Tie as tie

@@ -1,3 +1,4 @@
+-- The library's own call, its cost made a byte (`byte_of`), and what `told` tells of its answer (`changed-by` in NumberLaws).
 use Rattle.station.proofs.NumberLaws.{changed-by}
 use borrow.Author.Needs.{needs}
 use Rattle.station.proofs.rongdhesi_change_move.Statement.{statement}

@@ -1,3 +1,4 @@
+-- The size's rule by the promise of `is_size`; a good size has at most 4,096 cells, so no product passes its width.
 use mathlib.Core.Path.{refl}
 use native.Mathlib.Omega.{arith}
 use borrow.Author.Tests.{not-true, not-false}

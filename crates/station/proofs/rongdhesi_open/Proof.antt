@@ -1,3 +1,4 @@
+-- The library's own call, and what `told` tells of its answer.
 use borrow.Author.Needs.{needs}
 use Rattle.station.proofs.rongdhesi_open.Statement.{statement}
 use Rattle.station.proofs.rongdhesi_open.Tie as tie

@@ -1,3 +1,4 @@
+-- The library's own call, and what `search_told` tells of its answer.
 use borrow.Author.Needs.{needs}
 use Rattle.station.proofs.rongdhesi_search.Statement.{statement}
 use Rattle.station.proofs.rongdhesi_search.Tie as tie

@@ -1,3 +1,4 @@
+-- Each variant of the answer is told by its name and values (NumberLaws).
 use Rattle.station.proofs.NumberLaws.{search-told, way-told, search-refused-told}
 use borrow.Author.Needs.{needs}
 use Rattle.station.proofs.search_told.Statement.{statement}

@@ -1,3 +1,4 @@
+-- Done, or the refusal's number (NumberLaws).
 use Rattle.station.proofs.NumberLaws.{call-told, call-refused-told}
 use borrow.Author.Needs.{needs}
 use Rattle.station.proofs.told.Statement.{statement}

@@ -1,3 +1,4 @@
+-- The new hunter's parent is cleared and the old hunter found anew: what `found_anew` promises of the tables so changed (TakeOverLaws).
 use Rattle.take_over.proofs.TakeOverLaws.{hand-aimed, hand-held, hand-cell, hand-holds, hand-long}
 use borrow.Author.Needs.{needs}
 use Rattle.take_over.proofs.hand_over.Statement.{statement}

@@ -1,3 +1,4 @@
+-- The four cases of taking over, each by its law in TakeOverLaws: started fresh for the search number, the hunter where it was, started fresh for an infinite rhs, handed over.
 use mathlib.Core.Path.{refl}
 use native.Mathlib.Omega.{arith}
 use Rattle.take_over.proofs.TakeOverLaws.{openable, aiming, handing, taken-late, taken-same, taken-far, taken-new}

@@ -1,3 +1,4 @@
+-- km grows by the estimate between the two spots, and has room for it (`km-room`, `taken-is` in TakeOverLaws).
 use native.Mathlib.Omega.{arith}
 use Rattle.take_over.proofs.TakeOverLaws.{both-placed, km-room, taken-is}
 use borrow.Author.Needs.{needs}
