@@ -1,7 +1,7 @@
-//! The check of soundness asked through the calls, where the answer is known from how the tables were made.
+//! The check of soundness asked through the calls, where the answer is known from how the tables were made, or else from the model.
 
 use crate::pair::{Call, Counts, Pair, Side};
-use compare::model::Answer;
+use compare::model::{tables_refusal, Answer};
 use compare::rules::{broken, Rule};
 
 /// What was done to sound tables.
@@ -15,6 +15,8 @@ enum Made {
     BrokenAlone(Rule),
     /// The size (1) or a length (2) is at fault.
     Misshapen(u8),
+    /// Something of which the model's check says the number, 0 if nothing is broken.
+    Judged(u8),
 }
 
 impl Made {
@@ -23,17 +25,18 @@ impl Made {
         match self {
             Made::Sound => 0,
             Made::Broken(_) | Made::BrokenAlone(_) => 6,
-            Made::Misshapen(number) => number,
+            Made::Misshapen(number) | Made::Judged(number) => number,
         }
     }
 
     /// Are these rules, which the model finds broken, as the tables were made?
     fn agrees(self, faults: &[Rule]) -> bool {
         match self {
-            Made::Sound => faults.is_empty(),
+            Made::Sound | Made::Judged(0) => faults.is_empty(),
+            Made::Judged(6) => !faults.is_empty() && faults != [Rule::Shape],
             Made::Broken(rule) => faults.contains(&rule),
             Made::BrokenAlone(rule) => faults == [rule],
-            Made::Misshapen(_) => faults == [Rule::Shape],
+            Made::Misshapen(_) | Made::Judged(_) => faults == [Rule::Shape],
         }
     }
 }
@@ -76,6 +79,13 @@ impl<'a> Asked<'a> {
     /// Asks about a record or tables whose size (1) or lengths (2) are at fault.
     pub fn misshapes(&mut self, number: u8, done: impl Fn(&mut Side)) {
         self.ask(Made::Misshapen(number), done);
+    }
+
+    /// Asks about tables of which only the model's check tells whether they are sound.
+    pub fn judged(&mut self, done: impl Fn(&mut Side)) {
+        let mut side = self.base.clone();
+        done(&mut side);
+        self.ask(Made::Judged(tables_refusal(&side.session, &side.tables)), done);
     }
 
     /// Does something to the base and asks by a search without room for a way, which is refused by 7 if the tables are

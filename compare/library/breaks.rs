@@ -2,6 +2,7 @@
 //! That the tables are sound or not follows from what was done to them, beside the sentence of document 01 that says so.
 
 use crate::asked::Asked;
+use crate::edges::{set_entries, set_record};
 use crate::pair::{Counts, Side};
 use crate::queue_breaks::{break_key, break_list, break_members, break_order, break_place};
 use crate::rounds::{cut, draw_base};
@@ -264,6 +265,7 @@ fn break_cell(asked: &mut Asked, cell: usize) {
     break_key(asked, cell);
     break_place(asked, cell);
     break_list(asked, cell);
+    set_entries(asked, cell);
 }
 
 /// All cells of a small plan. Of a large one the first, the last, those of the last search, the ends of the list and a drawn one.
@@ -303,6 +305,7 @@ fn break_all(asked: &mut Asked, chance: &mut Chance) {
     break_lengths(asked);
     break_cells(asked);
     break_numbers(asked);
+    set_record(asked);
     for cell in cells_to_break(&asked.base, chance) {
         break_cell(asked, cell);
     }

@@ -126,31 +126,38 @@ fn play_cut(chance: &mut Chance, pair: &mut Pair) {
     (pair.model, pair.library) = before;
 }
 
-/// One round of a session: a change, a placing, a faulty, spoiled or cut call, or a search.
-pub fn play_round(chance: &mut Chance, pair: &mut Pair, range: u64) {
+/// A round in which nobody is placed: a change, a faulty, spoiled or cut call, or a search.
+pub fn play_in_place(chance: &mut Chance, pair: &mut Pair, range: u64) {
     let cells = pair.cells();
-    match chance.draw(100) {
+    match chance.draw(70) {
         0..=29 => {
             let (cell, direction) = (chance.draw(cells), chance.draw(4));
             let cost = draw_cost(chance, range);
             pair.play(Call::Change { cell, direction, cost });
         }
-        30..=44 => {
-            let cell = draw_place(chance, pair, pair.model.session.hunter);
-            pair.play(Call::Hunter(cell));
-        }
-        45..=59 => {
-            let cell = draw_place(chance, pair, pair.model.session.target);
-            pair.play(Call::Target(cell));
-        }
-        60..=63 => {
+        30..=33 => {
             pair.play(draw_faulty(chance, cells));
         }
-        64..=67 => play_spoiled(chance, pair, range),
-        68..=69 => play_cut(chance, pair),
+        34..=37 => play_spoiled(chance, pair, range),
+        38..=39 => play_cut(chance, pair),
         _ => {
             pair.play(Call::Search);
         }
+    }
+}
+
+/// One round of a session: hunter or target placed somewhere, or neither.
+pub fn play_round(chance: &mut Chance, pair: &mut Pair, range: u64) {
+    match chance.draw(100) {
+        0..=14 => {
+            let cell = draw_place(chance, pair, pair.model.session.hunter);
+            pair.play(Call::Hunter(cell));
+        }
+        15..=29 => {
+            let cell = draw_place(chance, pair, pair.model.session.target);
+            pair.play(Call::Target(cell));
+        }
+        _ => play_in_place(chance, pair, range),
     }
 }
 
@@ -188,15 +195,19 @@ pub fn opened<'a>(chance: &mut Chance, counts: &'a mut Counts, part: &'static st
     pair
 }
 
-/// Draws sound tables: made ones, which no history led to, or those that a played session left.
+/// Draws sound tables: made ones, which no history led to, or those of a session that was just opened, searched once or played for long.
 pub fn draw_base(chance: &mut Chance, counts: &mut Counts, part: &'static str, width: u64, height: u64, made: bool) -> Side {
     if made {
         let (session, tables) = sound_tables(chance, width, height);
         return Side { session, tables, way: vec![ABSENT; (width * height) as usize] };
     }
     let mut pair = opened(chance, counts, part, width, height, 9);
-    for _ in 0..40 {
-        play_round(chance, &mut pair, 9);
+    match chance.draw(6) {
+        0 => (),
+        1 => {
+            pair.play(Call::Search);
+        }
+        _ => (0..40).for_each(|_| play_round(chance, &mut pair, 9)),
     }
     pair.level();
     pair.library

@@ -7,6 +7,7 @@
 
 mod asked;
 mod breaks;
+mod edges;
 mod flips;
 mod pair;
 mod queue_breaks;
@@ -21,7 +22,7 @@ use compare::made::{draw_plan, sound_tables};
 use compare::model::{cells_of, Answer, ABSENT, INFINITE};
 use flips::play_flipped;
 use pair::{Call, Counts, Pair, Side};
-use rounds::{opened, play_round};
+use rounds::{opened, play_in_place, play_round};
 
 /// Sessions of every width and every height from 1 to 64, thin ones among them.
 fn play_sizes(seed: u64, percent: u64, counts: &mut Counts) {
@@ -74,6 +75,33 @@ fn play_long(seed: u64, percent: u64, counts: &mut Counts) {
             }
             last = pair.play(Call::Search);
         }
+    }
+}
+
+/// More than 1,000 searches in a row while doors shut and open, calls are refused and tables are spoiled: the hunter only
+/// goes along the way, so that no search but the renewal starts fresh. Fails if none was a renewal.
+fn play_long_with_doors(seed: u64, percent: u64, counts: &mut Counts) {
+    for index in 0..percent.div_ceil(10) {
+        let mut chance = Chance::start(seed, 600_000 + index);
+        let (width, height) = (2 + chance.draw(8), 2 + chance.draw(8));
+        let mut pair = opened(&mut chance, counts, "long with doors", width, height, 9);
+        let mut last = pair.play(Call::Search);
+        for _ in 0..1_500 {
+            match (chance.draw(8), last) {
+                (0, Answer::Way { .. }) => {
+                    pair.play(Call::Hunter(pair.model.way[1] as u64));
+                }
+                (1, _) => {
+                    pair.play(Call::Target(chance.draw(width * height)));
+                }
+                _ => play_in_place(&mut chance, &mut pair, 9),
+            }
+            last = pair.play(Call::Search);
+        }
+    }
+    if counts.renewals == 0 {
+        println!("no search number reached 1,000");
+        std::process::exit(1);
     }
 }
 
@@ -138,10 +166,11 @@ fn main() {
     let percent = *words.first().unwrap_or(&100);
     let seed = *words.get(1).unwrap_or(&1);
     println!("lengths asked for: {} sizes", ask_lengths());
-    let parts: [(&str, fn(u64, u64, &mut Counts)); 6] = [
+    let parts: [(&str, fn(u64, u64, &mut Counts)); 7] = [
         ("every width and height, 1 to 64", play_sizes),
         ("small plans", play_small),
         ("more than 1,000 searches in a row", play_long),
+        ("the same while doors shut, calls are refused and tables are spoiled", play_long_with_doors),
         ("sound tables that no history led to", play_made),
         ("each byte of each table and of the record flipped", play_flipped),
         ("each rule of soundness broken by itself, and kept on the edge", play_broken),
