@@ -1,7 +1,6 @@
 //! A call made in the model and through the C interface, and all that it leaves compared.
 
 use crate::rongdhesi::{self, lent, Session as Crossing};
-use compare::digest::numbers_of;
 use compare::model::{self, Answer, Session, Tables, ABSENT};
 use compare::rules::Rule;
 use std::collections::BTreeMap;
@@ -140,7 +139,7 @@ impl<'a> Pair<'a> {
     fn count(&mut self, answer: &Answer, before: &Session, call: Call) {
         let counts = &mut *self.counts;
         counts.calls += 1;
-        counts.kinds[numbers_of(answer)[0] as usize] += 1;
+        counts.kinds[answer.numbers()[0] as usize] += 1;
         if let Answer::Refused(number) = answer {
             counts.refused[*number as usize] += 1;
         }
@@ -158,7 +157,7 @@ impl<'a> Pair<'a> {
     /// Names the first thing in which the sides differ, if there is one.
     fn difference(&self, call: Call, answer: &Answer, numbers: [u64; 5], before: &Side) -> Option<&'static str> {
         let (model, library) = (&self.model, &self.library);
-        if numbers_of(answer) != numbers {
+        if answer.numbers() != numbers {
             return Some("another answer");
         }
         if model.session != library.session {

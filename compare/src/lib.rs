@@ -2,7 +2,6 @@
 //! It exists to be compared with another implementation, call by call.
 
 pub mod chance;
-pub mod digest;
 pub mod dijkstra;
 pub mod drill;
 pub mod made;

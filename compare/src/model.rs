@@ -83,6 +83,20 @@ pub enum Answer {
     Refused(u8),
 }
 
+impl Answer {
+    /// The answer's five numbers: kind (0 accepted, 1 way, 2 none, 3 caught, 4 refused), refusal number, cost, steps,
+    /// length of the way. What an answer lacks is 0; a caught way has length 1.
+    pub fn numbers(&self) -> [u64; 5] {
+        match *self {
+            Answer::Accepted => [0, 0, 0, 0, 0],
+            Answer::Way { cost, steps, length } => [1, 0, cost as u64, steps, length as u64],
+            Answer::None { steps } => [2, 0, 0, steps, 0],
+            Answer::Caught { .. } => [3, 0, 0, 0, 1],
+            Answer::Refused(number) => [4, number as u64, 0, 0, 0],
+        }
+    }
+}
+
 /// The three kinds of steps of a search.
 #[derive(Clone, Copy, Debug, PartialEq, Eq, PartialOrd, Ord)]
 pub enum Step {
