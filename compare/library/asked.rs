@@ -1,8 +1,13 @@
 //! The check of soundness asked through the calls, where the answer is known from how the tables were made, or else from the model.
 
-use crate::pair::{Call, Counts, Pair, Side};
+use crate::pair::Pair;
+use compare::calls::{Call, Counts, Player, Side};
 use compare::model::{tables_refusal, Answer};
 use compare::rules::{broken, Rule};
+use std::collections::BTreeMap;
+
+/// How often each rule was the only one broken, where tables were made for that.
+pub type Alone = BTreeMap<Rule, u64>;
 
 /// What was done to sound tables.
 #[derive(Clone, Copy, Debug)]
@@ -45,19 +50,14 @@ impl Made {
 pub struct Asked<'a> {
     pub base: Side,
     counts: &'a mut Counts,
-    part: &'static str,
+    alone: &'a mut Alone,
 }
 
 impl<'a> Asked<'a> {
     /// Takes sound tables as the base.
-    pub fn new(mut base: Side, counts: &'a mut Counts, part: &'static str) -> Asked<'a> {
+    pub fn new(mut base: Side, counts: &'a mut Counts, alone: &'a mut Alone) -> Asked<'a> {
         base.way.clear();
-        Asked { base, counts, part }
-    }
-
-    /// The base's N.
-    pub fn cells(&self) -> u64 {
-        self.base.tables.g.len() as u64
+        Asked { base, counts, alone }
     }
 
     /// Asks about tables that what was done leaves sound.
@@ -72,7 +72,7 @@ impl<'a> Asked<'a> {
 
     /// Asks about tables in which this rule was broken and no other.
     pub fn breaks_alone(&mut self, rule: Rule, done: impl Fn(&mut Side)) {
-        *self.counts.alone.entry(rule).or_insert(0) += 1;
+        *self.alone.entry(rule).or_insert(0) += 1;
         self.ask(Made::BrokenAlone(rule), done);
     }
 
@@ -97,9 +97,9 @@ impl<'a> Asked<'a> {
         if !made.agrees(&faults) {
             fail(&format!("the model finds {faults:?} broken"), made, &side);
         }
-        let change = Call::Change { cell: self.cells(), direction: 0, cost: 1 };
+        let change = Call::Change { cell: self.base.cells(), direction: 0, cost: 1 };
         for (call, if_sound) in [(Call::Search, 7), (change, 3)] {
-            let mut pair = Pair::new(side.clone(), self.counts, self.part);
+            let mut pair = Pair::new(side.clone(), self.counts, "broken");
             let answer = pair.play(call);
             let number = if made.number() == 0 { if_sound } else { made.number() };
             if answer != Answer::Refused(number) {

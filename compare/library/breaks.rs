@@ -1,14 +1,15 @@
 //! Each rule of soundness broken by itself where that can be done, and kept on the other side of its edge.
 //! That the tables are sound or not follows from what was done to them, beside the sentence of document 01 that says so.
 
-use crate::asked::Asked;
+use crate::asked::{Alone, Asked};
+use crate::bases::draw_base;
 use crate::edges::{set_entries, set_record};
-use crate::pair::{Counts, Side};
 use crate::queue_breaks::{break_key, break_list, break_members, break_order, break_place};
-use crate::rounds::{cut, draw_base};
+use compare::calls::{Counts, Side};
 use compare::chance::Chance;
 use compare::model::{neighbour, opposite, ABSENT, INFINITE, SHUT};
 use compare::rules::{Rule, SINGLE};
+use compare::spoil::cut;
 
 /// "every finite g and the hunter's rhs at most 1,024,250 × n".
 fn bound(searches: u32) -> u32 {
@@ -38,14 +39,14 @@ fn break_size(asked: &mut Asked) {
 fn break_lengths(asked: &mut Asked) {
     for table in 0..8 {
         for longer in [false, true] {
-            asked.misshapes(2, |side| cut(side, table, longer));
+            asked.misshapes(2, |side| cut(&mut side.tables, table, longer));
             asked.misshapes(2, |side| {
                 side.session.km = u32::MAX;
-                cut(side, table, longer);
+                cut(&mut side.tables, table, longer);
             });
             asked.misshapes(1, |side| {
                 side.session.height = 0;
-                cut(side, table, longer);
+                cut(&mut side.tables, table, longer);
             });
         }
     }
@@ -53,7 +54,7 @@ fn break_lengths(asked: &mut Asked) {
 
 /// "the recorded cells are in the plan".
 fn break_cells(asked: &mut Asked) {
-    let (cells, session) = (asked.cells(), asked.base.session);
+    let (cells, session) = (asked.base.cells(), asked.base.session);
     for out in [cells, cells + 1, 65_535, 1 << 32, u64::MAX] {
         asked.breaks_alone(Rule::Cells, |side| side.session.hunter = out);
         asked.breaks_alone(Rule::Cells, |side| side.session.target = out);
@@ -320,14 +321,16 @@ fn break_all(asked: &mut Asked, chance: &mut Chance) {
 
 /// Asks about bases that were played and bases that were made, in turn and at least twenty. Fails if a rule was never broken alone.
 pub fn play_broken(seed: u64, percent: u64, counts: &mut Counts) {
+    let mut alone = Alone::new();
     for number in 0..percent.max(20) {
         let mut chance = Chance::start(seed, 500_000 + number);
         let (width, height) = draw_size(&mut chance, number);
         let made = (number + number / 20) % 2 == 1;
         let base = draw_base(&mut chance, counts, "broken", width, height, made);
-        break_all(&mut Asked::new(base, counts, "broken"), &mut chance);
+        break_all(&mut Asked::new(base, counts, &mut alone), &mut chance);
     }
-    if let Some(rule) = SINGLE.iter().find(|rule| !counts.alone.contains_key(rule)) {
+    println!("rules broken alone: {alone:?}");
+    if let Some(rule) = SINGLE.iter().find(|rule| !alone.contains_key(rule)) {
         println!("{rule:?} was never broken alone");
         std::process::exit(1);
     }

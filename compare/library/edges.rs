@@ -2,7 +2,7 @@
 //! What that breaks hangs on all the rest, so that here only the model tells, in both its wordings.
 
 use crate::asked::Asked;
-use crate::pair::Side;
+use compare::calls::Side;
 
 /// A number of some width.
 trait Entry: Copy {

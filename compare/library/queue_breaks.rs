@@ -1,7 +1,7 @@
 //! The rules of the queue broken and kept: keys, places, list, count and who is queued.
 
 use crate::asked::Asked;
-use crate::pair::Side;
+use compare::calls::Side;
 use compare::model::{wide_key, ABSENT, INFINITE};
 use compare::rules::Rule;
 
@@ -106,7 +106,7 @@ fn others_than(entry: u16, cells: u64, count: u64) -> impl Iterator<Item = u16> 
 
 /// "list and places agree": no other place is right.
 pub fn break_place(asked: &mut Asked, cell: usize) {
-    for other in others_than(asked.base.tables.place[cell], asked.cells(), asked.base.session.count) {
+    for other in others_than(asked.base.tables.place[cell], asked.base.cells(), asked.base.session.count) {
         asked.breaks(Rule::Agree, |side| side.tables.place[cell] = other);
     }
 }
@@ -114,7 +114,7 @@ pub fn break_place(asked: &mut Asked, cell: usize) {
 /// "list and places agree", "unused places hold 65,535": no other entry is right.
 pub fn break_list(asked: &mut Asked, index: usize) {
     let used = index < asked.base.session.count as usize;
-    for other in others_than(asked.base.tables.list[index], asked.cells(), asked.base.session.count) {
+    for other in others_than(asked.base.tables.list[index], asked.base.cells(), asked.base.session.count) {
         let done = |side: &mut Side| side.tables.list[index] = other;
         if used {
             asked.breaks(Rule::Agree, done);
@@ -161,7 +161,7 @@ fn break_pair(asked: &mut Asked, i: usize, j: usize) {
 /// One cell stands twice in the list, in an entry that is used or not.
 fn break_once(asked: &mut Asked, i: usize) {
     let count = asked.base.session.count as usize;
-    if count as u64 == asked.cells() {
+    if count as u64 == asked.base.cells() {
         return;
     }
     let cell = asked.base.tables.list[i];
@@ -174,7 +174,7 @@ fn break_once(asked: &mut Asked, i: usize) {
 
 /// No other count is right.
 fn break_count(asked: &mut Asked) {
-    let (count, cells) = (asked.base.session.count, asked.cells());
+    let (count, cells) = (asked.base.session.count, asked.base.cells());
     for other in [count.wrapping_sub(1), count + 1, 0, cells, cells + 1, count + (1 << 32), u64::MAX] {
         let done = |side: &mut Side| side.session.count = other;
         if other < count {

@@ -6,6 +6,7 @@
 //! It prints what it played; at the first difference it prints the call with its tables and fails.
 
 mod asked;
+mod bases;
 mod breaks;
 mod edges;
 mod flips;
@@ -14,15 +15,15 @@ mod queue_breaks;
 #[path = "../../include/rongdhesi.rs"]
 #[allow(dead_code)]
 mod rongdhesi;
-mod rounds;
 
 use breaks::play_broken;
+use compare::calls::{Call, Counts, Player, Side};
 use compare::chance::Chance;
-use compare::made::{draw_plan, sound_tables};
-use compare::model::{cells_of, Answer, ABSENT, INFINITE};
+use compare::made::sound_tables;
+use compare::model::{cells_of, ABSENT, INFINITE};
+use compare::rounds::{opened, play_long, play_long_with_doors, play_round};
 use flips::play_flipped;
-use pair::{Call, Counts, Pair, Side};
-use rounds::{opened, play_in_place, play_round};
+use pair::Pair;
 
 /// Sessions of every width and every height from 1 to 64, thin ones among them.
 fn play_sizes(seed: u64, percent: u64, counts: &mut Counts) {
@@ -31,7 +32,7 @@ fn play_sizes(seed: u64, percent: u64, counts: &mut Counts) {
         let drawn = 1 + chance.draw(64);
         for (width, height) in [(side, 1), (1, side), (side, drawn), (drawn, side), (side, side)] {
             let range = [1, 3, 250][chance.draw(3) as usize];
-            let mut pair = opened(&mut chance, counts, "sizes", width, height, range);
+            let mut pair = opened(&mut chance, width, height, range, |side| Pair::new(side, counts, "sizes"));
             for _ in 0..2 * percent {
                 play_round(&mut chance, &mut pair, range);
             }
@@ -45,59 +46,29 @@ fn play_small(seed: u64, percent: u64, counts: &mut Counts) {
         let mut chance = Chance::start(seed, 1_000 + index);
         let (width, height) = (1 + chance.draw(9), 1 + chance.draw(9));
         let range = [1, 3, 250][chance.draw(3) as usize];
-        let mut pair = opened(&mut chance, counts, "small", width, height, range);
+        let mut pair = opened(&mut chance, width, height, range, |side| Pair::new(side, counts, "small"));
         for _ in 0..150 {
             play_round(&mut chance, &mut pair, range);
         }
     }
 }
 
-/// More than 1,000 searches in a row: the hunter goes along the way, the target moves, costs change.
-fn play_long(seed: u64, percent: u64, counts: &mut Counts) {
+/// More than 1,000 searches in a row.
+fn play_renewals(seed: u64, percent: u64, counts: &mut Counts) {
     for index in 0..percent.div_ceil(5) {
         let mut chance = Chance::start(seed, 200_000 + index);
         let (width, height) = if index == 0 { (24, 17) } else { (2 + chance.draw(4), 2 + chance.draw(4)) };
-        let (cells, range) = (width * height, [1, 250][chance.draw(2) as usize]);
-        let plan = draw_plan(&mut chance, width, height, 0, range);
-        let mut pair = Pair::new(Side::filled(plan, cells as usize), counts, "long");
-        let mut last = pair.play(Call::Open { width, height, hunter: 0, target: cells - 1 });
-        for round in 0..2_300 {
-            if let Answer::Way { .. } = last {
-                pair.play(Call::Hunter(pair.model.way[1] as u64));
-            }
-            let hunter = pair.model.session.hunter;
-            if hunter == pair.model.session.target || round % 3 == 0 {
-                pair.play(Call::Target((hunter + 1 + chance.draw(cells - 1)) % cells));
-            }
-            if round % 4 == 0 {
-                let (cell, direction) = (chance.draw(cells), chance.draw(4));
-                pair.play(Call::Change { cell, direction, cost: 1 + chance.draw(range) });
-            }
-            last = pair.play(Call::Search);
-        }
+        let range = [1, 250][chance.draw(2) as usize];
+        play_long(&mut chance, width, height, range, |side| Pair::new(side, counts, "long"));
     }
 }
 
-/// More than 1,000 searches in a row while doors shut and open, calls are refused and tables are spoiled: the hunter only
-/// goes along the way, so that no search but the renewal starts fresh. Fails if none was a renewal.
-fn play_long_with_doors(seed: u64, percent: u64, counts: &mut Counts) {
+/// The same while doors shut, calls are refused and tables are spoiled. Fails if no search was a renewal.
+fn play_renewals_with_doors(seed: u64, percent: u64, counts: &mut Counts) {
     for index in 0..percent.div_ceil(10) {
         let mut chance = Chance::start(seed, 600_000 + index);
         let (width, height) = (2 + chance.draw(8), 2 + chance.draw(8));
-        let mut pair = opened(&mut chance, counts, "long with doors", width, height, 9);
-        let mut last = pair.play(Call::Search);
-        for _ in 0..1_500 {
-            match (chance.draw(8), last) {
-                (0, Answer::Way { .. }) => {
-                    pair.play(Call::Hunter(pair.model.way[1] as u64));
-                }
-                (1, _) => {
-                    pair.play(Call::Target(chance.draw(width * height)));
-                }
-                _ => play_in_place(&mut chance, &mut pair, 9),
-            }
-            last = pair.play(Call::Search);
-        }
+        play_long_with_doors(&mut chance, width, height, 9, |side| Pair::new(side, counts, "long with doors"));
     }
     if counts.renewals == 0 {
         println!("no search number reached 1,000");
@@ -107,8 +78,8 @@ fn play_long_with_doors(seed: u64, percent: u64, counts: &mut Counts) {
 
 /// Tables of a plan in which every cell obeys its rules, since nothing is reached, but whose last search had no hunter in the plan.
 fn play_without_hunter(chance: &mut Chance, pair: &mut Pair) {
-    let cells = pair.cells();
-    pair.both(|side| {
+    let cells = pair.side().cells();
+    pair.everywhere(|side| {
         let t = &mut side.tables;
         (t.g.fill(INFINITE), t.rhs.fill(INFINITE), t.parent.fill(0), t.k1.fill(0), t.k2.fill(0));
         (t.place.fill(ABSENT), t.list.fill(ABSENT));
@@ -125,8 +96,7 @@ fn play_made(seed: u64, percent: u64, counts: &mut Counts) {
         let most = if index % 50 == 0 { 64 } else { 8 };
         let (width, height) = (1 + chance.draw(most), 1 + chance.draw(most));
         let (session, tables) = sound_tables(&mut chance, width, height);
-        let way = vec![ABSENT; (width * height) as usize];
-        let mut pair = Pair::new(Side { session, tables, way }, counts, "made");
+        let mut pair = Pair::new(Side::with(session, tables), counts, "made");
         if chance.draw(2) == 0 {
             pair.play(Call::Search);
         }
@@ -169,8 +139,8 @@ fn main() {
     let parts: [(&str, fn(u64, u64, &mut Counts)); 7] = [
         ("every width and height, 1 to 64", play_sizes),
         ("small plans", play_small),
-        ("more than 1,000 searches in a row", play_long),
-        ("the same while doors shut, calls are refused and tables are spoiled", play_long_with_doors),
+        ("more than 1,000 searches in a row", play_renewals),
+        ("the same while doors shut, calls are refused and tables are spoiled", play_renewals_with_doors),
         ("sound tables that no history led to", play_made),
         ("each byte of each table and of the record flipped", play_flipped),
         ("each rule of soundness broken by itself, and kept on the edge", play_broken),
@@ -183,9 +153,6 @@ fn main() {
             "{}: {} calls; done, ways, none, caught, refused {:?}; refused by number {:?}; renewals {}, other fresh starts {}, highest search number {}",
             name, counts.calls, counts.kinds, counts.refused, counts.renewals, counts.fresh, counts.highest
         );
-        if !counts.alone.is_empty() {
-            println!("    broken alone: {:?}", counts.alone);
-        }
         all += counts.calls;
     }
     println!("{} calls through the C interface, each as the model's", all);

@@ -1,10 +1,13 @@
 //! A second source of the planner of document 01, written from the paper alone.
 //! It exists to be compared with another implementation, call by call.
 
+pub mod calls;
 pub mod chance;
 pub mod dijkstra;
 pub mod drill;
 pub mod made;
 pub mod model;
 pub mod play;
+pub mod rounds;
 pub mod rules;
+pub mod spoil;

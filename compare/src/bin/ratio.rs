@@ -4,7 +4,7 @@
 use compare::chance::Chance;
 use compare::made::sound_tables;
 use compare::model::{is_sound, ABSENT};
-use compare::play::{checked_search, play};
+use compare::play::{checked_search, play, Played};
 use std::collections::BTreeMap;
 use std::time::{Duration, Instant};
 
@@ -23,11 +23,11 @@ fn main() {
     let (mut played, mut searches) = (0u64, 0u64);
     let half = Instant::now() + Duration::from_secs(seconds / 2);
     while Instant::now() < half {
-        let shown = play(seed, played);
+        let Played { cells, counts } = play(seed, played);
         played += 1;
-        searches += shown.searches;
-        let worst = sessions.entry(shown.width * shown.height).or_insert(0);
-        *worst = (*worst).max(shown.worst);
+        searches += counts.kinds[1] + counts.kinds[2];
+        let worst = sessions.entry(cells).or_insert(0);
+        *worst = (*worst).max(counts.most_steps);
     }
     report("played sessions", played, searches, &sessions);
 

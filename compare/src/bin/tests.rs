@@ -11,6 +11,7 @@ use compare::model::{
 };
 use compare::play::{checked_search, play};
 use compare::rules::{broken, Rule};
+use compare::spoil::cut;
 
 /// Counts the checks.
 struct Count(u64);
@@ -306,26 +307,10 @@ fn fresh_tables(count: &mut Count) {
     count.same("list", tables.list, vec![4, ABSENT, ABSENT, ABSENT, ABSENT, ABSENT]);
 }
 
-/// Each table shortened and lengthened by one entry, by its number.
-fn other_length(tables: &Tables, table: usize, longer: bool) -> Tables {
-    fn fit<T: Copy + Default>(entries: &mut Vec<T>, longer: bool) {
-        if longer {
-            entries.push(T::default());
-        } else {
-            entries.pop();
-        }
-    }
+/// The tables with one of them shortened or lengthened by one entry, by its number.
+fn other_length(tables: &Tables, table: u64, longer: bool) -> Tables {
     let mut other = tables.clone();
-    match table {
-        0 => fit(&mut other.plan, longer),
-        1 => fit(&mut other.g, longer),
-        2 => fit(&mut other.rhs, longer),
-        3 => fit(&mut other.parent, longer),
-        4 => fit(&mut other.k1, longer),
-        5 => fit(&mut other.k2, longer),
-        6 => fit(&mut other.place, longer),
-        _ => fit(&mut other.list, longer),
-    }
+    cut(&mut other, table, longer);
     other
 }
 
@@ -674,10 +659,12 @@ fn renewal(count: &mut Count) {
 fn slips(count: &mut Count) {
     // A whole seeded play compares every answer with Dijkstra's, which shows each of them.
     for index in 0..36 {
-        let shown = play(2_026, index);
-        count.yes("played", shown.calls > 0);
-        if index % 12 == 6 {
-            count.yes("long sessions pass 1,000 twice", shown.renewals >= 2 && shown.fresh == 0);
+        let counts = play(2_026, index).counts;
+        count.yes("played", counts.calls > 0);
+        match index % 12 {
+            6 => count.yes("long sessions pass 1,000 twice", counts.renewals >= 2 && counts.fresh == 0),
+            7 => count.yes("long sessions with doors pass 1,000", counts.renewals >= 1),
+            _ => (),
         }
     }
     // No way: nothing is shown, not even to the nearest cell.
