@@ -20,21 +20,23 @@ LONGEST_RUN = 120
 Case = collections.namedtuple("Case", "kind name drill prints", defaults=[None])
 Run = collections.namedtuple("Run", "lines complaint status")
 
+
+# Files.
+
+
+def read(path):
+    with open(path, "rb") as file:
+        return file.read()
+
+
+def write(path, content):
+    with open(path, "wb") as file:
+        file.write(content)
+
+
 # Document 01, "One drill, whole".
-WHOLE_DRILL = bytes(
-    [255, 1, 255, 255, 255, 1, 255, 1, 255, 255, 255, 1]
-    + [4, 0, 0, 0, 0] + [1, 1, 0, 1, 255] + [4, 0, 0, 0, 0] + [1, 1, 0, 1, 5] + [4, 0, 0, 0, 0] + [2, 1, 0, 0, 0]
-    + [4, 0, 0, 0, 0] + [3, 0, 0, 0, 0] + [4, 0, 0, 0, 0] + [3, 1, 0, 0, 0] + [4, 0, 0, 0, 0]
-    + [3, 1, 0, 0, 2, 0, 11, 0, 12, 0, 0, 0]
-)
-WHOLE_DRILL_PRINTS = b"""\
-way 2 steps 2: 0 1 2
-none steps 0
-way 6 steps 0: 0 1 2
-way 5 steps 2: 1 2
-way 1 steps 0: 1 0
-caught at 1
-"""
+WHOLE_DRILL = read(os.path.join(ROOT, "examples", "whole-drill", "drill"))
+WHOLE_DRILL_PRINTS = read(os.path.join(ROOT, "examples", "whole-drill", "prints"))
 
 
 # Drill files from their parts.
@@ -102,7 +104,6 @@ def examples():
             if subprocess.run(make, stdout=subprocess.PIPE, check=True).stdout != stored:
                 sys.exit(f"{PROGRAM}: examples/{name}/drill is not what its README.md draws and tells")
             yield Case("examples", name, stored, read(os.path.join(folder, name, "prints")))
-    yield Case("examples", "the whole drill of document 01", WHOLE_DRILL, WHOLE_DRILL_PRINTS)
 
 
 def made(models, seed, folder):
@@ -113,16 +114,6 @@ def made(models, seed, folder):
 
 
 # Playing.
-
-
-def read(path):
-    with open(path, "rb") as file:
-        return file.read()
-
-
-def write(path, content):
-    with open(path, "wb") as file:
-        file.write(content)
 
 
 def start_once(command):

@@ -115,13 +115,9 @@ fn small_facts(count: &mut Count) {
 
 /// The drill of the paper, 79 bytes in and six lines out.
 fn whole_drill(count: &mut Count) {
-    let file: [u8; 79] = [
-        255, 1, 255, 255, 255, 1, 255, 1, 255, 255, 255, 1, 4, 0, 0, 0, 0, 1, 1, 0, 1, 255, 4, 0, 0, 0, 0, 1,
-        1, 0, 1, 5, 4, 0, 0, 0, 0, 2, 1, 0, 0, 0, 4, 0, 0, 0, 0, 3, 0, 0, 0, 0, 4, 0, 0, 0, 0, 3, 1, 0, 0, 0,
-        4, 0, 0, 0, 0, 3, 1, 0, 0, 2, 0, 11, 0, 12, 0, 0, 0,
-    ];
-    let wanted = "way 2 steps 2: 0 1 2\nnone steps 0\nway 6 steps 0: 0 1 2\nway 5 steps 2: 1 2\nway 1 steps 0: 1 0\ncaught at 1\n";
-    count.same("the whole drill", drill::run(&file), wanted.to_string());
+    let file = include_bytes!("../../../examples/whole-drill/drill");
+    let wanted = include_str!("../../../examples/whole-drill/prints");
+    count.same("the whole drill", drill::run(file), wanted.to_string());
 }
 
 /// In the fourth search of the drill, cell 0 is raised (g 0, rhs 2) and then lowered to 2.
