@@ -8,8 +8,16 @@ const RENEWAL: u32 = 1_000;
 const GREATEST_ESTIMATE: u32 = 126;
 const GREATEST_GROWTH: u32 = 1_024_250;
 
-/// A direction's step in rows and in columns, each plus 1: north, east, south, west.
-const SHIFTS: [(usize, usize); 4] = [(0, 1), (1, 2), (2, 1), (1, 0)];
+/// A direction's step in rows and in columns, each plus 1.
+#[derive(Clone, Copy)]
+struct Shift {
+    row: usize,
+    column: usize,
+}
+
+/// North, east, south, west.
+const SHIFTS: [Shift; 4] =
+    [Shift { row: 0, column: 1 }, Shift { row: 1, column: 2 }, Shift { row: 2, column: 1 }, Shift { row: 1, column: 0 }];
 
 /// A row and a column.
 #[derive(Clone, Copy)]
@@ -36,8 +44,6 @@ pub struct Session {
     pub target: usize,
     origin: usize,
     goal: usize,
-    /// Where the goal stands.
-    aim: Spot,
     km: u32,
     count: usize,
     searches: u32,
@@ -51,45 +57,133 @@ pub struct Session {
     list: Vec<u16>,
 }
 
-/// The cell that a move enters which stays in the plan.
-fn entered(width: usize, cell: usize, d: usize) -> usize {
-    let (row, column) = SHIFTS[d];
-    cell + row * width + column - (width + 1)
+/// Where a cell stands.
+fn spot_of(width: usize, cell: usize) -> Spot {
+    let row = cell / width;
+    Spot { row, column: cell - row * width }
+}
+
+/// The next cell's spot, for a walk over the cells.
+fn onward(width: usize, at: Spot) -> Spot {
+    if at.column + 1 == width {
+        return Spot { row: at.row + 1, column: 0 };
+    }
+    Spot { row: at.row, column: at.column + 1 }
 }
 
 /// Does the move stay in the plan? A direction can leave it on one side only.
 fn stays_in(width: usize, height: usize, at: Spot, d: usize) -> bool {
-    let (row, column) = SHIFTS[d];
-    if row == 0 {
+    let shift = SHIFTS[d];
+    if shift.row == 0 {
         return 0 < at.row;
     }
-    if row == 2 {
+    if shift.row == 2 {
         return at.row + 1 < height;
     }
-    if column == 0 {
+    if shift.column == 0 {
         return 0 < at.column;
     }
     at.column + 1 < width
 }
 
+/// The spot that a move leads to which stays in the plan.
 fn moved(at: Spot, d: usize) -> Spot {
-    let (row, column) = SHIFTS[d];
-    Spot { row: at.row + row - 1, column: at.column + column - 1 }
+    let shift = SHIFTS[d];
+    Spot { row: at.row + shift.row - 1, column: at.column + shift.column - 1 }
 }
 
-fn estimate(a: Spot, b: Spot) -> u32 {
-    (a.row.abs_diff(b.row) + a.column.abs_diff(b.column)) as u32
+/// The cell that a move enters which stays in the plan.
+fn entered(width: usize, cell: usize, d: usize) -> usize {
+    let shift = SHIFTS[d];
+    cell + shift.row * width + shift.column - (width + 1)
 }
 
+/// The estimate between two spots.
+fn estimate(a: Spot, b: Spot) -> usize {
+    a.row.abs_diff(b.row) + a.column.abs_diff(b.column)
+}
+
+/// Is this byte a cost, or shut?
 fn is_byte(byte: u8) -> bool {
     byte != 0 && (byte <= 250 || byte == SHUT)
 }
 
-/// The tables, as the check reads them.
+/// Does cell a come before cell b in the queue?
+#[inline(always)]
+fn cell_before(k1: &[u32], k2: &[u32], a: usize, b: usize) -> bool {
+    if k1[a] != k1[b] {
+        return k1[a] < k1[b];
+    }
+    if k2[a] != k2[b] {
+        return k2[a] < k2[b];
+    }
+    a < b
+}
+
+/// Does cell v, with rhs r and parent p, agree with the sum that an open move into it gives, whose parent code is k?
+#[inline(always)]
+fn sum_holds(hunter: usize, v: usize, r: u32, p: u8, sum: usize, k: usize) -> bool {
+    let own = r as usize;
+    if p as usize == k {
+        return own == sum;
+    }
+    own <= sum || v == hunter
+}
+
+/// Is b a cost or shut, and does cell v agree with the move of byte b into it from a cell whose g is x?
+#[inline(always)]
+fn move_holds(hunter: usize, b: u8, x: u32, v: usize, r: u32, p: u8, k: usize) -> bool {
+    if b <= 250 {
+        return b != 0 && sum_holds(hunter, v, r, p, x as usize + b as usize, k);
+    }
+    b == SHUT && p as usize != k
+}
+
+/// Do a cell's own numbers obey their rules?
+#[inline(always)]
+fn own_holds(bound: u32, hunter: usize, s: usize, g: u32, r: u32, p: u8) -> bool {
+    if bound < g && g != INFINITE {
+        return false;
+    }
+    if s == hunter {
+        return r <= bound && p == 0;
+    }
+    if p == 0 {
+        return r == INFINITE;
+    }
+    p <= 4 && r != INFINITE
+}
+
+/// Is the stored key (a, b) not above the calculated one? e is the estimate to the target.
+#[inline(always)]
+fn key_holds(a: u32, b: u32, g: u32, r: u32, e: usize, km: u32) -> bool {
+    let m = g.min(r);
+    let first = m as usize + e + km as usize;
+    let stored = a as usize;
+    if stored != first {
+        return stored < first;
+    }
+    b <= m
+}
+
+/// Where the check finds a rule broken.
+#[derive(Clone, Copy, PartialEq, Eq)]
+enum Fault {
+    Nowhere,
+    InRecord,
+    InCell(usize),
+    InMove(usize, usize),
+}
+
+/// The record's numbers and the tables, as the check reads them.
 #[derive(Clone, Copy)]
 struct Cut<'a> {
     width: usize,
     height: usize,
+    origin: usize,
+    km: u32,
+    count: usize,
+    searches: u32,
     plan: &'a [u8],
     g: &'a [u32],
     rhs: &'a [u32],
@@ -103,79 +197,65 @@ struct Cut<'a> {
 impl Cut<'_> {
     /// Does place i of the list obey the rules of a true heap?
     #[inline(always)]
-    fn entry_holds(self, count: usize, i: usize) -> bool {
+    fn entry_holds(self, i: usize) -> bool {
         let c = self.list[i] as usize;
-        if i >= count {
+        if self.count <= i {
             return c == ABSENT as usize;
         }
-        if c >= self.list.len() || self.place[c] as usize != i {
+        if self.list.len() <= c || self.place[c] as usize != i {
             return false;
         }
         if i == 0 {
             return true;
         }
         let d = self.list[(i - 1) / 2] as usize;
-        d < self.list.len() && (self.k1[c], self.k2[c], c) >= (self.k1[d], self.k2[d], d)
+        d < self.list.len() && !cell_before(self.k1, self.k2, c, d)
     }
 
-    /// Do a cell's own numbers obey their rules?
-    #[inline(always)]
-    fn own_holds(bound: u32, origin: usize, u: usize, g: u32, rhs: u32, parent: u8) -> bool {
-        if g > bound && g != INFINITE {
-            return false;
-        }
-        if u == origin {
-            rhs <= bound && parent == 0
-        } else if parent == 0 {
-            rhs == INFINITE
-        } else {
-            parent <= 4 && rhs != INFINITE
-        }
-    }
-
-    /// Is cell u absent?
+    /// Is cell u absent from the queue, and are both its key numbers 0?
     #[inline(always)]
     fn absent_holds(self, u: usize) -> bool {
         self.place[u] == ABSENT && self.k1[u] == 0 && self.k2[u] == 0
     }
 
-    /// Is cell u queued, under a key not above the calculated one, where m is the lesser of its g and rhs?
+    /// Has cell u a used place of the list, and is it named there?
     #[inline(always)]
-    fn waiting_holds(self, count: usize, m: u32, at: Spot, aim: Spot, km: u32, u: usize) -> bool {
+    fn queued_holds(self, u: usize) -> bool {
         let i = self.place[u] as usize;
-        if i >= count || self.list[i] as usize != u {
+        i < self.count && self.list[i] as usize == u
+    }
+
+    /// Is cell u, whose g x and rhs y differ, queued under a stored key that is not above the calculated one?
+    #[inline(always)]
+    fn waiting_holds(self, x: u32, y: u32, u: usize, at: Spot, aim: Spot) -> bool {
+        self.queued_holds(u) && key_holds(self.k1[u], self.k2[u], x, y, estimate(at, aim), self.km)
+    }
+
+    /// Does cell u obey its own rules and the queue's, and does place u of the list?
+    #[inline(always)]
+    fn alone_holds(self, u: usize, at: Spot, aim: Spot) -> bool {
+        if !self.entry_holds(u) {
             return false;
         }
-        let first = m as u64 + estimate(at, aim) as u64 + km as u64;
-        let stored = self.k1[u] as u64;
-        if stored != first {
-            return stored < first;
+        let (x, y) = (self.g[u], self.rhs[u]);
+        if !own_holds(GREATEST_GROWTH * self.searches, self.origin, u, x, y, self.parent[u]) {
+            return false;
         }
-        self.k2[u] <= m
+        if x == y {
+            return self.absent_holds(u);
+        }
+        self.waiting_holds(x, y, u, at, aim)
     }
 
     /// Does the move from cell u, whose g is x, in direction d agree with the plan's edge, or else with the cell that it enters?
     #[inline(always)]
-    fn way_holds(self, origin: usize, x: u32, u: usize, at: Spot, d: usize) -> bool {
-        let byte = self.plan[4 * u + d];
+    fn way_holds(self, x: u32, u: usize, at: Spot, d: usize) -> bool {
+        let b = self.plan[4 * u + d];
         if !stays_in(self.width, self.height, at, d) {
-            return byte == SHUT && self.parent[u] as usize != d + 1;
+            return b == SHUT && self.parent[u] as usize != d + 1;
         }
         let v = entered(self.width, u, d);
-        let is_parent = self.parent[v] as usize == (d + 2) % 4 + 1;
-        if byte > 250 {
-            return byte == SHUT && !is_parent;
-        }
-        if byte == 0 {
-            return false;
-        }
-        let sum = x as u64 + byte as u64;
-        let rhs = self.rhs[v] as u64;
-        if is_parent {
-            rhs == sum
-        } else {
-            rhs <= sum || v == origin
-        }
+        move_holds(self.origin, b, x, v, self.rhs[v], self.parent[v], (d + 2) % 4 + 1)
     }
 }
 
@@ -190,7 +270,6 @@ impl Session {
             target,
             origin: hunter,
             goal: target,
-            aim: Spot { row: 0, column: 0 },
             km: 0,
             count: 0,
             searches: 0,
@@ -208,7 +287,12 @@ impl Session {
     }
 
     fn spot_of(&self, cell: usize) -> Spot {
-        Spot { row: cell / self.width, column: cell % self.width }
+        spot_of(self.width, cell)
+    }
+
+    /// Where the last search's target stands.
+    fn aim(&self) -> Spot {
+        self.spot_of(self.goal)
     }
 
     fn start_fresh(&mut self) {
@@ -221,28 +305,17 @@ impl Session {
         self.list.fill(ABSENT);
         self.origin = self.hunter;
         self.goal = self.target;
-        self.aim = self.spot_of(self.goal);
         self.km = 0;
         self.count = 0;
         self.searches = 0;
         self.rhs[self.hunter] = 0;
-        self.set_right(self.hunter, self.spot_of(self.hunter));
+        self.set_right(self.aim(), self.hunter, self.spot_of(self.hunter));
     }
 
     // ---- the queue
 
-    fn before(&self, a: usize, b: usize) -> bool {
-        if self.k1[a] != self.k1[b] {
-            return self.k1[a] < self.k1[b];
-        }
-        if self.k2[a] != self.k2[b] {
-            return self.k2[a] < self.k2[b];
-        }
-        a < b
-    }
-
     fn place_before(&self, i: usize, j: usize) -> bool {
-        self.before(self.list[i] as usize, self.list[j] as usize)
+        cell_before(&self.k1, &self.k2, self.list[i] as usize, self.list[j] as usize)
     }
 
     fn exchange(&mut self, i: usize, j: usize) {
@@ -306,11 +379,11 @@ impl Session {
 
     // ---- a cell's entry
 
-    fn first_key(&self, m: u32, at: Spot) -> u32 {
-        m + estimate(at, self.aim) + self.km
+    fn first_key(&self, aim: Spot, m: u32, at: Spot) -> u32 {
+        m + estimate(at, aim) as u32 + self.km
     }
 
-    fn set_right(&mut self, cell: usize, at: Spot) {
+    fn set_right(&mut self, aim: Spot, cell: usize, at: Spot) {
         let (x, y) = (self.g[cell], self.rhs[cell]);
         let queued = self.place[cell] != ABSENT;
         if x == y {
@@ -320,7 +393,7 @@ impl Session {
             return;
         }
         let m = x.min(y);
-        let first = self.first_key(m, at);
+        let first = self.first_key(aim, m, at);
         if queued {
             self.put_under(cell, first, m);
         } else {
@@ -328,21 +401,38 @@ impl Session {
         }
     }
 
+    /// The open move out of cell u in direction d: the cell that it enters, and its cost.
+    fn move_out(&self, u: usize, d: usize) -> Option<(usize, u8)> {
+        let cost = self.plan[4 * u + d];
+        (cost != SHUT).then(|| (entered(self.width, u, d), cost))
+    }
+
+    /// The open move into cell s from its neighbour in direction d: that neighbour, and the cost.
+    fn move_into(&self, s: usize, d: usize) -> Option<(usize, u8)> {
+        let shift = SHIFTS[d];
+        let sum = s + shift.row * self.width + shift.column;
+        if sum <= self.width {
+            return None;
+        }
+        let u = sum - (self.width + 1);
+        let at = 4 * u + (d + 2) % 4;
+        if self.plan.len() <= at || self.plan[at] == SHUT {
+            return None;
+        }
+        Some((u, self.plan[at]))
+    }
+
     /// The first least sum over the neighbours in direction order, with its parent byte.
     fn anew(&self, s: usize) -> (u32, u8) {
         let (mut rhs, mut parent) = (INFINITE, 0);
         for d in 0..4 {
-            let (row, column) = SHIFTS[d];
-            let sum = s + row * self.width + column;
-            if sum <= self.width {
+            let Some((u, cost)) = self.move_into(s, d) else {
+                continue;
+            };
+            if self.g[u] == INFINITE {
                 continue;
             }
-            let u = sum - (self.width + 1);
-            let at = 4 * u + (d + 2) % 4;
-            if at >= self.plan.len() || self.plan[at] == SHUT || self.g[u] == INFINITE {
-                continue;
-            }
-            let sum = self.g[u] + self.plan[at] as u32;
+            let sum = self.g[u] + cost as u32;
             if sum < rhs {
                 rhs = sum;
                 parent = d as u8 + 1;
@@ -351,9 +441,9 @@ impl Session {
         (rhs, parent)
     }
 
-    fn found_anew(&mut self, cell: usize, at: Spot) {
+    fn found_anew(&mut self, aim: Spot, cell: usize, at: Spot) {
         (self.rhs[cell], self.parent[cell]) = self.anew(cell);
-        self.set_right(cell, at);
+        self.set_right(aim, cell, at);
     }
 
     // ---- the check
@@ -369,17 +459,21 @@ impl Session {
             && self.km <= GREATEST_ESTIMATE * self.searches
     }
 
-    /// Are the tables sound? One walk over cells and directions. The tables have their lengths.
+    /// The first place at fault. One walk over cells and directions, left as soon as one rule fails. The tables have their lengths.
     #[inline(never)]
-    fn is_sound(&self) -> bool {
+    fn first_fault(&self) -> Fault {
         if !self.numbers_hold() {
-            return false;
+            return Fault::InRecord;
         }
         let cells = self.width * self.height;
         // Cut to the length that they have, so that the compiler can leave out tests of an index.
         let tables = Cut {
             width: self.width,
             height: self.height,
+            origin: self.origin,
+            km: self.km,
+            count: self.count,
+            searches: self.searches,
             plan: &self.plan[..4 * cells],
             g: &self.g[..cells],
             rhs: &self.rhs[..cells],
@@ -389,36 +483,25 @@ impl Session {
             place: &self.place[..cells],
             list: &self.list[..cells],
         };
-        let bound = GREATEST_GROWTH * self.searches;
+        let aim = self.aim();
         let mut at = Spot { row: 0, column: 0 };
         for u in 0..cells {
-            if !tables.entry_holds(self.count, u) {
-                return false;
+            if !tables.alone_holds(u, at, aim) {
+                return Fault::InCell(u);
             }
-            let (x, y) = (tables.g[u], tables.rhs[u]);
-            if !Cut::own_holds(bound, self.origin, u, x, y, tables.parent[u]) {
-                return false;
-            }
-            let holds = if x == y {
-                tables.absent_holds(u)
-            } else {
-                tables.waiting_holds(self.count, x.min(y), at, self.aim, self.km, u)
-            };
-            if !holds {
-                return false;
-            }
+            let x = tables.g[u];
             for d in 0..4 {
-                if !tables.way_holds(self.origin, x, u, at, d) {
-                    return false;
+                if !tables.way_holds(x, u, at, d) {
+                    return Fault::InMove(u, d);
                 }
             }
-            at = if at.column + 1 == self.width {
-                Spot { row: at.row + 1, column: 0 }
-            } else {
-                Spot { row: at.row, column: at.column + 1 }
-            };
+            at = onward(self.width, at);
         }
-        true
+        Fault::Nowhere
+    }
+
+    fn is_sound(&self) -> bool {
+        self.first_fault() == Fault::Nowhere
     }
 
     /// The refusal of size, lengths or content, 0 if there is none.
@@ -467,30 +550,31 @@ impl Session {
         let v = entered(self.width, u, d);
         let code = (d as u8 + 2) % 4 + 1;
         let old = std::mem::replace(&mut self.plan[4 * u + d], cost);
-        if v == self.origin {
-            return Answer::Done;
-        }
-        if cost < old {
-            let sum = self.g[u] as u64 + cost as u64;
-            if sum < self.rhs[v] as u64 {
-                self.rhs[v] = sum as u32;
-                self.parent[v] = code;
-                self.set_right(v, self.spot_of(v));
-            }
-        } else if cost > old && self.parent[v] == code {
-            self.found_anew(v, self.spot_of(v));
+        if let Some((rhs, parent)) = self.effect_of(v, code, u, old, cost) {
+            (self.rhs[v], self.parent[v]) = (rhs, parent);
+            self.set_right(self.aim(), v, self.spot_of(v));
         }
         Answer::Done
+    }
+
+    /// The rhs and parent that a changed move asks of the cell v that it enters, if it asks anything.
+    fn effect_of(&self, v: usize, code: u8, u: usize, old: u8, new: u8) -> Option<(u32, u8)> {
+        if v == self.origin {
+            return None;
+        }
+        if new < old {
+            let sum = self.g[u] as usize + new as usize;
+            return (sum < self.rhs[v] as usize).then_some((sum as u32, code));
+        }
+        (new > old && self.parent[v] == code).then(|| self.anew(v))
     }
 
     fn take_over(&mut self) {
         if self.searches == RENEWAL {
             return self.start_fresh();
         }
-        let new = self.spot_of(self.target);
-        self.km += estimate(self.aim, new);
+        self.km += estimate(self.aim(), self.spot_of(self.target)) as u32;
         self.goal = self.target;
-        self.aim = new;
         if self.hunter == self.origin {
             return;
         }
@@ -500,7 +584,7 @@ impl Session {
         let old = self.origin;
         self.parent[self.hunter] = 0;
         self.origin = self.hunter;
-        self.found_anew(old, self.spot_of(old));
+        self.found_anew(self.aim(), old, self.spot_of(old));
     }
 
     /// The least queued cell, while the search goes on.
@@ -518,48 +602,45 @@ impl Session {
         }
     }
 
-    fn lower(&mut self, u: usize, at: Spot) {
+    fn lower(&mut self, aim: Spot, u: usize, at: Spot) {
         let v = self.rhs[u];
         self.g[u] = v;
-        self.set_right(u, at);
+        self.set_right(aim, u, at);
         for d in 0..4 {
-            let cost = self.plan[4 * u + d];
-            if cost == SHUT {
+            let Some((s, cost)) = self.move_out(u, d) else {
                 continue;
-            }
-            let s = entered(self.width, u, d);
+            };
             let sum = v + cost as u32;
             if s != self.origin && sum < self.rhs[s] {
                 self.rhs[s] = sum;
                 self.parent[s] = (d as u8 + 2) % 4 + 1;
-                self.set_right(s, moved(at, d));
+                self.set_right(aim, s, moved(at, d));
             }
         }
     }
 
-    fn raise(&mut self, u: usize, at: Spot) {
+    fn raise(&mut self, aim: Spot, u: usize, at: Spot) {
         self.g[u] = INFINITE;
         for d in 0..4 {
-            if self.plan[4 * u + d] == SHUT {
+            let Some((s, _)) = self.move_out(u, d) else {
                 continue;
-            }
-            let s = entered(self.width, u, d);
+            };
             if s != self.origin && self.parent[s] == (d as u8 + 2) % 4 + 1 {
-                self.found_anew(s, moved(at, d));
+                self.found_anew(aim, s, moved(at, d));
             }
         }
-        self.set_right(u, at);
+        self.set_right(aim, u, at);
     }
 
-    fn step(&mut self, u: usize) {
+    fn step(&mut self, aim: Spot, u: usize) {
         let at = self.spot_of(u);
         let m = self.g[u].min(self.rhs[u]);
-        if (self.k1[u], self.k2[u]) < (self.first_key(m, at), m) {
-            self.set_right(u, at);
+        if (self.k1[u], self.k2[u]) < (self.first_key(aim, m, at), m) {
+            self.set_right(aim, u, at);
         } else if self.rhs[u] < self.g[u] {
-            self.lower(u, at);
+            self.lower(aim, u, at);
         } else {
-            self.raise(u, at);
+            self.raise(aim, u, at);
         }
     }
 
@@ -599,12 +680,13 @@ impl Session {
         }
         self.take_over();
         self.searches += 1;
+        let aim = self.aim();
         let mut steps = 0;
         while let Some(u) = self.chosen() {
             if steps == 3 * cells {
                 return Answer::Refused(9);
             }
-            self.step(u);
+            self.step(aim, u);
             steps += 1;
         }
         let far = self.rhs[self.goal];
