@@ -1,11 +1,11 @@
 /* Rongdhesi: a planner for a hunter and a moving target on a floor plan of at most 64 by 64 cells.
  *
- * The functions stand in libstation.a, which `rt staticlib station` builds for x86-64 Linux. Each of them is
+ * The functions stand in librongdhesi.a, which `rt staticlib rongdhesi` builds for x86-64 Linux. Each of them is
  * proved to end safely for every number given and every content of the lent tables, and to answer as the
- * library's own call (crates/station, src/lib.rt). A caller owes what no proof can see: every pointer points
+ * library's own call (crates/rongdhesi, src/lib.rt). A caller owes what no proof can see: every pointer points
  * to as many entries as the length after it says, aligned for their type, and no two tables overlap.
  *
- * This header is kept by hand. It has to say the same as crates/station/src/lib.rt. */
+ * This header is kept by hand. It has to say the same as crates/rongdhesi/src/lib.rt. */
 
 #ifndef RONGDHESI_H
 #define RONGDHESI_H

@@ -1,6 +1,6 @@
 """Plays document 01's whole drill through the C interface and prints its six lines.
 
-whole_drill.py LIBRARY, where LIBRARY is a shared object linked from libstation.a (examples/run does this)."""
+whole_drill.py LIBRARY, where LIBRARY is a shared object linked from librongdhesi.a (examples/other_languages does this)."""
 import ctypes
 import sys
 from ctypes import POINTER, Structure, c_size_t, c_uint8, c_uint16, c_uint32, c_uint64

@@ -1,7 +1,7 @@
 -- The library's own call, and what `search_told` tells of its answer.
 use borrow.Author.Needs.{needs}
-use Rattle.station.proofs.rongdhesi_search.Statement.{statement}
-use Rattle.station.proofs.rongdhesi_search.Tie as tie
+use Rattle.rongdhesi.proofs.rongdhesi_search.Statement.{statement}
+use Rattle.rongdhesi.proofs.rongdhesi_search.Tie as tie
 
 search-requires : tie.Need-search-requires
 search-requires c κs = search needs

@@ -30,10 +30,10 @@ use Rattle.search.specs.declared.Outcome.{Outcome}
 use Rattle.search.specs.Promise.{SearchRules, Searches}
 use Rattle.demands.specs.Demands.{Exactly, stepsOf, RightlyAnswered, caught, none-leads, way-shown, TakesTheSteps, FewSteps}
 use Rattle.demands.proofs.Demands.{demand-1, demand-1-exactly, demand-2, demand-3, one-search}
-use Rattle.station.specs.declared.Reply.{Reply}
-use Rattle.station.specs.declared.Lengths.{Lengths}
-use Rattle.station.specs.Told.{kindOf, replyOf, CallTold, SearchTold, Measures}
-use Rattle.station.specs.Demanded.{ToldExactly, RightlyTold, TakesTheStepsTold, FewStepsTold}
+use Rattle.rongdhesi.specs.declared.Reply.{Reply}
+use Rattle.rongdhesi.specs.declared.Lengths.{Lengths}
+use Rattle.rongdhesi.specs.Told.{kindOf, replyOf, CallTold, SearchTold, Measures}
+use Rattle.rongdhesi.specs.Demanded.{ToldExactly, RightlyTold, TakesTheStepsTold, FewStepsTold}
 
 -- ---- what is told of a reply
 

@@ -1,8 +1,8 @@
 -- Each variant of the answer is told by its name and values (NumberLaws).
-use Rattle.station.proofs.NumberLaws.{search-told, way-told, search-refused-told}
+use Rattle.rongdhesi.proofs.NumberLaws.{search-told, way-told, search-refused-told}
 use borrow.Author.Needs.{needs}
-use Rattle.station.proofs.search_told.Statement.{statement}
-use Rattle.station.proofs.search_told.Tie as tie
+use Rattle.rongdhesi.proofs.search_told.Statement.{statement}
+use Rattle.rongdhesi.proofs.search_told.Tie as tie
 
 enum-told : tie.Need-enum-told
 enum-told c = search needs

@@ -14,7 +14,7 @@ ghost use Rattle.session.specs.Refusals.{toldBy as toldByCall};
 ghost use Rattle.session.specs.Promises.{hunterAt, targetAt, Places, Opens};
 ghost use Rattle.change.specs.Promise.{Changes};
 ghost use Rattle.search.specs.Promise.{Searches};
-ghost use Rattle.station.specs.Told.{replyOf, OutcomeTold, byteOf, CallTold, SearchTold, Measures};
+ghost use Rattle.rongdhesi.specs.Told.{replyOf, OutcomeTold, byteOf, CallTold, SearchTold, Measures};
 
 // The kinds of answer.
 const DONE: usize = 0;

@@ -1,7 +1,7 @@
 -- The library's own call, and what `told` tells of its answer.
 use borrow.Author.Needs.{needs}
-use Rattle.station.proofs.rongdhesi_place_target.Statement.{statement}
-use Rattle.station.proofs.rongdhesi_place_target.Tie as tie
+use Rattle.rongdhesi.proofs.rongdhesi_place_target.Statement.{statement}
+use Rattle.rongdhesi.proofs.rongdhesi_place_target.Tie as tie
 
 place-target-requires : tie.Need-place-target-requires
 place-target-requires c κs = search needs

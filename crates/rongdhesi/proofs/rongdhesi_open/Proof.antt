@@ -1,7 +1,7 @@
 -- The library's own call, and what `told` tells of its answer.
 use borrow.Author.Needs.{needs}
-use Rattle.station.proofs.rongdhesi_open.Statement.{statement}
-use Rattle.station.proofs.rongdhesi_open.Tie as tie
+use Rattle.rongdhesi.proofs.rongdhesi_open.Statement.{statement}
+use Rattle.rongdhesi.proofs.rongdhesi_open.Tie as tie
 
 open-requires : tie.Need-open-requires
 open-requires c κs = search needs

@@ -1,8 +1,8 @@
 -- Done, or the refusal's number (NumberLaws).
-use Rattle.station.proofs.NumberLaws.{call-told, call-refused-told}
+use Rattle.rongdhesi.proofs.NumberLaws.{call-told, call-refused-told}
 use borrow.Author.Needs.{needs}
-use Rattle.station.proofs.told.Statement.{statement}
-use Rattle.station.proofs.told.Tie as tie
+use Rattle.rongdhesi.proofs.told.Statement.{statement}
+use Rattle.rongdhesi.proofs.told.Tie as tie
 
 enum-known-answer : tie.Need-enum-known-answer
 enum-known-answer c = search needs

@@ -6,8 +6,8 @@ use Rattle.decide.proofs.DecideLaws.{refuted}
 use Rattle.plan.proofs.MoveLaws.{area}
 use Rattle.session.specs.Refusals.{fails, holds, passed}
 use borrow.Author.Needs.{needs}
-use Rattle.station.proofs.rongdhesi_lengths.Statement.{statement}
-use Rattle.station.proofs.rongdhesi_lengths.Tie as tie
+use Rattle.rongdhesi.proofs.rongdhesi_lengths.Statement.{statement}
+use Rattle.rongdhesi.proofs.rongdhesi_lengths.Tie as tie
 
 is-size-requires : tie.Need-is-size-requires
 is-size-requires c κs = search needs

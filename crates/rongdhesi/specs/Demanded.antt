@@ -12,8 +12,8 @@ use Rattle.tables.specs.Lent.{Tables, cells, graph, session, core}
 use Rattle.tables.specs.Sound.{Sound}
 use Rattle.tables.specs.Told.{none-leads as none, Told}
 use Rattle.demands.specs.Demands.{stepsOf, RightlyAnswered}
-use Rattle.station.specs.declared.Reply.{Reply}
-use Rattle.station.specs.Told.{kindOf, replyOf}
+use Rattle.rongdhesi.specs.declared.Reply.{Reply}
+use Rattle.rongdhesi.specs.Told.{kindOf, replyOf}
 
 -- 1, both ways: the refusal number is k exactly if k is the number of the first rule broken, and 0 exactly if no rule is broken.
 abbrev pub ToldExactly : (ℕ → Type 0) → Reply → Type 0

@@ -1,7 +1,7 @@
 -- The record of a refusal, field by field.
 use mathlib.Core.Path.{refl}
-use Rattle.station.proofs.refused.Statement.{statement}
-use Rattle.station.proofs.refused.Tie as tie
+use Rattle.rongdhesi.proofs.refused.Statement.{statement}
+use Rattle.rongdhesi.proofs.refused.Tie as tie
 
 returns : tie.Need-returns
 returns c = refl

@@ -15,8 +15,8 @@ use Rattle.change.specs.Promise.{Changes}
 use Rattle.answer.specs.declared.Answer.{Answer as SearchAnswer}
 use Rattle.answer.specs.declared.Answer.the-variants.{Way, Refused}
 use Rattle.answer.specs.Answer.{toldBy}
-use Rattle.station.specs.declared.Reply.{Reply}
-use Rattle.station.specs.Told.{replyOf, byteOf}
+use Rattle.rongdhesi.specs.declared.Reply.{Reply}
+use Rattle.rongdhesi.specs.Told.{replyOf, byteOf}
 
 -- ---- open, place and change
 

@@ -12,8 +12,8 @@ use Rattle.session.specs.declared.Reply.{Reply as CallReply}
 use Rattle.session.specs.Refusals.{toldBy as toldByCall, Ruled, Passed}
 use Rattle.answer.specs.Answer.{toldBy}
 use Rattle.search.specs.declared.Outcome.{Outcome}
-use Rattle.station.specs.declared.Reply.{Reply}
-use Rattle.station.specs.declared.Lengths.{Lengths}
+use Rattle.rongdhesi.specs.declared.Reply.{Reply}
+use Rattle.rongdhesi.specs.declared.Lengths.{Lengths}
 
 -- ---- answers in numbers
 

@@ -1,8 +1,8 @@
 -- A number above 255 is told as 0, any other as itself (NumberLaws).
-use Rattle.station.proofs.NumberLaws.{no-byte, a-byte}
+use Rattle.rongdhesi.proofs.NumberLaws.{no-byte, a-byte}
 use borrow.Author.Needs.{needs}
-use Rattle.station.proofs.byte_of.Statement.{statement}
-use Rattle.station.proofs.byte_of.Tie as tie
+use Rattle.rongdhesi.proofs.byte_of.Statement.{statement}
+use Rattle.rongdhesi.proofs.byte_of.Tie as tie
 
 returns : tie.Need-returns
 returns c = no-byte _ (c .if1 .taken)

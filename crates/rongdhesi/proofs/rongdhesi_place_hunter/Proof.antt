@@ -1,7 +1,7 @@
 -- The library's own call, and what `told` tells of its answer.
 use borrow.Author.Needs.{needs}
-use Rattle.station.proofs.rongdhesi_place_hunter.Statement.{statement}
-use Rattle.station.proofs.rongdhesi_place_hunter.Tie as tie
+use Rattle.rongdhesi.proofs.rongdhesi_place_hunter.Statement.{statement}
+use Rattle.rongdhesi.proofs.rongdhesi_place_hunter.Tie as tie
 
 place-hunter-requires : tie.Need-place-hunter-requires
 place-hunter-requires c κs = search needs

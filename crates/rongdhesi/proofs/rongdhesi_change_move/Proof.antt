@@ -1,8 +1,8 @@
 -- The library's own call, its cost made a byte (`byte_of`), and what `told` tells of its answer (`changed-by` in NumberLaws).
-use Rattle.station.proofs.NumberLaws.{changed-by}
+use Rattle.rongdhesi.proofs.NumberLaws.{changed-by}
 use borrow.Author.Needs.{needs}
-use Rattle.station.proofs.rongdhesi_change_move.Statement.{statement}
-use Rattle.station.proofs.rongdhesi_change_move.Tie as tie
+use Rattle.rongdhesi.proofs.rongdhesi_change_move.Statement.{statement}
+use Rattle.rongdhesi.proofs.rongdhesi_change_move.Tie as tie
 
 byte-of-requires : tie.Need-byte-of-requires
 byte-of-requires c κs = search needs
