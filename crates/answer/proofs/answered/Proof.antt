@@ -7,6 +7,13 @@ use borrow.Author.Needs.{needs}
 use Rattle.answer.proofs.answered.Statement.{statement}
 use Rattle.answer.proofs.answered.Tie as tie
 
+-- The places that the answers look back to.
+abbrev at-start : tie.Else1 → tie.Start
+at-start c = c .before .before .before .before
+
+abbrev reached : tie.After-slice-known2 → tie.Else2
+reached c = c .before .before .before .before .before
+
 returns : tie.Need-returns
 returns c = cut-off (not-true _ (c .if1 .taken))
 
@@ -26,18 +33,22 @@ shared-slice-read-near : tie.Need-shared-slice-read-near
 shared-slice-read-near c = search needs
 
 write-way-requires : tie.Need-write-way-requires
-write-way-requires c κs = c .before .before .before .before .before .before .before .before .pre .led (c .before .before .if2 .left)
+write-way-requires c κs = at-start (c .before .before .before .before) .pre .led (c .before .before .if2 .left)
 
 sub-t15 : tie.Need-sub-t15
-sub-t15 c = omega (arith, c .before .before .before .before .before .before .before .before .before .before .before .pre .not-above (c .before .before .before .before .before .if2 .left))
+sub-t15 c = omega (arith, at-start (reached c .before .before) .pre .not-above (reached c .if2 .left))
 
 same-length : tie.Need-same-length
 same-length c = search needs
 
 returns-3 : tie.Need-returns-3
 returns-3 c =
-    let finite = c .before .before .before .before .before .if2 .left in
-    way-told (c .before .before .before .before .before .before .before .before .before .before .before .pre .led finite) (not-false _ (c .before .before .before .before .before .before .before .if1 .left)) finite (c .before .before .write-way .ensures)
+    let finite = reached c .if2 .left in
+    way-told
+    (at-start (reached c .before .before) .pre .led finite)
+    (not-false _ (reached c .before .before .if1 .left))
+    finite
+    (c .before .before .write-way .ensures)
 
 pub answered-spec : {M : Type 1} → statement M
 answered-spec =

@@ -12,6 +12,10 @@ Inv-loop a parent way₀ count i₀ s₀ way i s = Writing a parent way₀ count
 abbrev μ-loop : tie.MeasureT-loop
 μ-loop a parent way₀ count i₀ s₀ way i s = i
 
+-- The places that the answers look back to.
+abbrev at-start : tie.At-loop Inv-loop μ-loop → tie.Start Inv-loop μ-loop
+at-start c = c .before .before .before .before
+
 passed-requires : tie.Need-passed-requires Inv-loop μ-loop
 passed-requires c κs = c .before .before .pre .followed
 
@@ -22,16 +26,20 @@ loop-holds : tie.Need-loop-holds Inv-loop μ-loop
 loop-holds c = writing-first (c .before .before .before .pre) (c .passed .ensures)
 
 cast-way : tie.Need-cast-way Inv-loop μ-loop
-cast-way c = omega (arith, c .before .loop .inv .inside, moves.area (c .before .before .before .before .before .pre .followed .size))
+cast-way c = omega (arith, c .before .loop .inv .inside, moves.area (at-start (c .before) .pre .followed .size))
 
 mul-way : tie.Need-mul-way Inv-loop μ-loop
-mul-way c = omega (arith, c .before .loop .inv .same, writing-room (c .before .before .before .before .before .pre) (c .before .loop .inv))
+mul-way c = omega (arith, c .before .loop .inv .same, writing-room (at-start (c .before) .pre) (c .before .loop .inv))
 
 slice-write-way : tie.Need-slice-write-way Inv-loop μ-loop
-slice-write-way c = omega (arith, c .before .loop .inv .same, writing-room (c .before .before .before .before .before .pre) (c .before .loop .inv))
+slice-write-way c = omega (arith, c .before .loop .inv .same, writing-room (at-start (c .before) .pre) (c .before .loop .inv))
 
 parent-of-requires : tie.Need-parent-of-requires Inv-loop μ-loop
-parent-of-requires c κs = linked (c .before .before .before .before .before .pre .followed) (c .before .loop .inv .leads) (writing-apart (c .before .before .before .before .before .pre) (c .before .loop .inv) (omega (arith, c .loop-test .taken)))
+parent-of-requires c κs =
+    linked
+    (at-start (c .before) .pre .followed)
+    (c .before .loop .inv .leads)
+    (writing-apart (at-start (c .before) .pre) (c .before .loop .inv) (omega (arith, c .loop-test .taken)))
 
 sub-i-2 : tie.Need-sub-i-2 Inv-loop μ-loop
 sub-i-2 c = omega (arith, c .before .loop-test .taken)
@@ -40,19 +48,24 @@ loop-less : tie.Need-loop-less Inv-loop μ-loop
 loop-less c = omega (arith, c .before .loop-test .taken)
 
 loop-again : tie.Need-loop-again Inv-loop μ-loop
-loop-again c = writing-more (c .before .before .before .before .before .before .pre) (c .before .before .loop .inv) (omega (arith, c .before .loop-test .taken)) (c .parent-of .ensures)
+loop-again c =
+    writing-more
+    (at-start (c .before .before) .pre)
+    (c .before .before .loop .inv)
+    (omega (arith, c .before .loop-test .taken))
+    (c .parent-of .ensures)
 
 cast-way-2 : tie.Need-cast-way-2 Inv-loop μ-loop
-cast-way-2 c = omega (arith, c .before .loop .inv .inside, moves.area (c .before .before .before .before .before .pre .followed .size))
+cast-way-2 c = omega (arith, c .before .loop .inv .inside, moves.area (at-start (c .before) .pre .followed .size))
 
 slice-write-way-2 : tie.Need-slice-write-way-2 Inv-loop μ-loop
-slice-write-way-2 c = omega (arith, c .before .loop .inv .same, writing-room (c .before .before .before .before .before .pre) (c .before .loop .inv))
+slice-write-way-2 c = omega (arith, c .before .loop .inv .same, writing-room (at-start (c .before) .pre) (c .before .loop .inv))
 
 same-length : tie.Need-same-length Inv-loop μ-loop
 same-length c = simp length-set (c .before .loop .inv .same)
 
 returns : tie.Need-returns Inv-loop μ-loop
-returns c = writing-all (c .before .before .before .before .before .pre) (c .before .before .passed .ensures) (omega (arith, c .loop-test .left)) (c .before .loop .inv)
+returns c = writing-all (at-start (c .before) .pre) (c .before .before .passed .ensures) (omega (arith, c .loop-test .left)) (c .before .loop .inv)
 
 pub write-way-spec : {M : Type 1} → statement M
 write-way-spec =

@@ -5,6 +5,21 @@ use borrow.Author.Needs.{needs}
 use Rattle.search.proofs.search.Statement.{statement}
 use Rattle.search.proofs.search.Tie as tie
 
+-- The places that the answers look back to.
+abbrev granted : tie.After-search-sound-arg8 → tie.Else1
+granted c = c .before .before .before .before .before .before .before .before
+
+abbrev at-start : tie.After-search-sound-arg8 → tie.Start
+at-start c =
+    granted c .before .before .before .before .before .before .before .before .before .before .before .before .before .before .before .before .before .before .before
+
+abbrev after-search-sound : tie.After-slice-known16 → tie.After-search-sound
+after-search-sound c =
+    c .before .before .before .before .before .before .before .before .before .before .before .before .before .before .before .before
+
+abbrev granted-for-returns-2 : tie.After-slice-known16 → tie.Else1
+granted-for-returns-2 c = granted (after-search-sound c .before)
+
 refusal-requires : tie.Need-refusal-requires
 refusal-requires c κs = search needs
 
@@ -36,7 +51,7 @@ returns : tie.Need-returns
 returns c = record { number = _; rules = c .before .refusal .ensures; refused = λ _. (refl, refl, refl, refl); done = λ e. absurd (c .if1 .taken e) }
 
 search-sound-requires : tie.Need-search-sound-requires
-search-sound-requires c κs = search-granted (c .before .before .before .before .before .before .before .before .before .before .before .before .before .before .before .before .before .before .before .before .before .before .before .before .before .before .before .args .way .now) (c .before .before .before .before .before .before .before .before .before .refusal .ensures) (c .before .before .before .before .before .before .before .before .if1 .left)
+search-sound-requires c κs = search-granted (at-start c .args .way .now) (granted c .before .refusal .ensures) (granted c .if1 .left)
 
 same-length-9 : tie.Need-same-length-9
 same-length-9 c = search needs
@@ -63,7 +78,12 @@ same-length-16 : tie.Need-same-length-16
 same-length-16 c = search needs
 
 returns-2 : tie.Need-returns-2
-returns-2 c = record { number = _; rules = c .before .before .before .before .before .before .before .before .before .before .before .before .before .before .before .before .before .before .before .before .before .before .before .before .before .before .refusal .ensures; refused = λ n. absurd (n (c .before .before .before .before .before .before .before .before .before .before .before .before .before .before .before .before .before .before .before .before .before .before .before .before .before .if1 .left)); done = λ _. c .before .before .before .before .before .before .before .before .before .before .before .before .before .before .before .before .search-sound .ensures }
+returns-2 c = record {
+  number = _;
+  rules = granted-for-returns-2 c .before .refusal .ensures;
+  refused = λ n. absurd (n (granted-for-returns-2 c .if1 .left));
+  done = λ _. after-search-sound c .search-sound .ensures;
+}
 
 pub search-spec : {M : Type 1} → statement M
 search-spec =

@@ -1,10 +1,57 @@
 -- Caught, or taken over, run and answered: each part has the method's tables and answer by its own promise, and SearchLaws puts them together (`searched`).
-use mathlib.Core.Path.{refl, sym, _∙_}
+use mathlib.Core.Path.{refl, _∙_}
 use native.Mathlib.Omega.{arith}
-use Rattle.search.proofs.SearchLaws.{searched-caught, run-aimed, run-started, few-searches, answering, long-after, searched}
+use Rattle.search.proofs.SearchLaws.{searched-caught, run-aimed, run-started, few-searches, answering, searched}
 use borrow.Author.Needs.{needs}
 use Rattle.search.proofs.search_sound.Statement.{statement}
 use Rattle.search.proofs.search_sound.Tie as tie
+
+-- The places that the answers look back to.
+abbrev at-start-from-struct-known : tie.After-struct-known → tie.Start
+at-start-from-struct-known c = c .before .before .before .before .before .before .before .before .before .before
+
+abbrev at-start-for-returns : tie.After-struct-known2 → tie.Start
+at-start-for-returns c = at-start-from-struct-known (c .before .before)
+
+abbrev apart : tie.After-take-over → tie.Else1
+apart c = c .before .before .before .before .before .before .before .before
+
+abbrev after-take-over-from-aim-of : tie.After-aim-of → tie.After-take-over
+after-take-over-from-aim-of c =
+    c .before .before .before .before .before .before .before .before .before .before .before .before .before .before .before
+
+abbrev after-aim-of-for-run : tie.After-run-arg7 → tie.After-aim-of
+after-aim-of-for-run c = c .before .before .before .before .before .before .before
+
+abbrev at-start-for-run : tie.After-run-arg7 → tie.Start
+at-start-for-run c = at-start-from-struct-known (apart (after-take-over-from-aim-of (after-aim-of-for-run c)) .before)
+
+abbrev after-aim-of-from-run : tie.After-run → tie.After-aim-of
+after-aim-of-from-run c = after-aim-of-for-run (c .before)
+
+abbrev after-take-over-from-run : tie.After-run → tie.After-take-over
+after-take-over-from-run c = after-take-over-from-aim-of (after-aim-of-from-run c)
+
+abbrev at-start-from-run : tie.After-run → tie.Start
+at-start-from-run c = at-start-for-run (c .before)
+
+abbrev after-run-for-add-t : tie.After-struct-known3 → tie.After-run
+after-run-for-add-t c = c .before .before .before .before .before .before .before .before .before .before .before .before .before .before .before
+
+abbrev after-run-for-answered : tie.After-answered-arg3 → tie.After-run
+after-run-for-answered c = after-run-for-add-t (c .before .before .before)
+
+abbrev after-run : tie.After-slice-known23 → tie.After-run
+after-run c = after-run-for-answered (c .before .before .before)
+
+abbrev after-aim-of : tie.After-slice-known23 → tie.After-aim-of
+after-aim-of c = after-aim-of-from-run (after-run c)
+
+abbrev after-take-over : tie.After-slice-known23 → tie.After-take-over
+after-take-over c = after-take-over-from-run (after-run c)
+
+abbrev at-start : tie.After-slice-known23 → tie.Start
+at-start c = at-start-from-run (after-run c)
 
 cast-way : tie.Need-cast-way
 cast-way c = search needs
@@ -16,7 +63,7 @@ same-length : tie.Need-same-length
 same-length c = search needs
 
 returns : tie.Need-returns
-returns c = searched-caught (c .before .before .before .before .before .before .before .before .before .before .before .before .pre .0) (c .before .if1 .taken) (c .before .before .before .before .before .before .before .before .before .before .before .before .pre .1) refl
+returns c = searched-caught (at-start-for-returns c .pre .0) (c .before .if1 .taken) (at-start-for-returns c .pre .1) refl
 
 take-over-requires : tie.Need-take-over-requires
 take-over-requires c κs = search needs
@@ -26,43 +73,63 @@ aim-of-requires c κs = search needs
 
 run-requires : tie.Need-run-requires
 run-requires c κs =
-    let S = c .before .before .before .before .before .before .before .before .before .before .before .before .before .before .before .before .before .before .before .before .before .before .before .before .before .before .before .before .before .before .before .before .before .before .before .before .before .before .before .before .before .pre .0 in
-    let H = c .before .before .before .before .before .before .before .before .before .before .before .before .before .before .before .before .before .before .before .before .before .before .take-over .ensures in
-    let O = c .before .before .before .before .before .before .before .aim-of .ensures in
+    let S = at-start-for-run c .pre .0 in
+    let H = after-take-over-from-aim-of (after-aim-of-for-run c) .take-over .ensures in
+    let O = after-aim-of-for-run c .aim-of .ensures in
     (run-aimed S H O, run-started S H O)
 
 add-t : tie.Need-add-t
-add-t c = omega (arith, few-searches (c .before .before .before .before .before .before .before .before .before .before .before .before .before .before .before .before .before .before .before .before .before .before .before .before .before .before .before .before .before .before .before .before .before .before .before .before .before .before .before .before .before .before .before .before .before .before .before .before .before .before .before .before .before .before .before .before .before .pre .0) (c .before .before .before .before .before .before .before .before .before .before .before .before .before .before .before .before .before .before .before .before .before .before .before .before .before .before .before .before .before .before .before .before .before .before .before .before .before .before .take-over .ensures) (c .before .before .before .before .before .before .before .before .before .before .before .before .before .before .before .before .before .before .before .before .before .before .before .aim-of .ensures))
+add-t c =
+    omega (
+      arith,
+      few-searches
+          (at-start-from-run (after-run-for-add-t c) .pre .0)
+          (after-take-over-from-run (after-run-for-add-t c) .take-over .ensures)
+          (after-aim-of-from-run (after-run-for-add-t c) .aim-of .ensures),
+    )
 
 answered-requires : tie.Need-answered-requires
-answered-requires c κs = answering (c .before .before .before .before .before .before .before .before .before .before .before .before .before .before .before .before .before .before .before .before .before .before .before .before .before .before .before .before .before .before .before .before .before .before .before .before .before .before .before .before .before .before .before .before .before .before .before .before .before .before .before .before .before .before .before .before .before .before .before .before .pre .0) (c .before .before .before .before .before .before .before .before .before .before .before .before .before .before .before .before .before .before .before .before .before .before .before .before .before .before .before .before .before .before .before .before .before .before .before .before .before .before .before .before .before .take-over .ensures) (c .before .before .before .before .before .before .before .before .before .before .before .before .before .before .before .before .before .before .before .before .before .before .before .before .before .before .aim-of .ensures) (c .before .before .before .before .before .before .before .before .before .before .before .before .before .before .before .before .before .before .run .ensures) (c .before .before .before .before .before .before .before .before .before .before .before .before .before .before .before .before .before .before .before .before .before .before .before .before .before .before .before .before .before .before .before .before .before .before .before .before .before .before .before .before .before .before .before .before .before .before .before .before .before .before .before .before .before .before .before .before .before .before .before .before .pre .1)
+answered-requires c κs =
+    answering
+    (at-start-from-run (after-run-for-answered c) .pre .0)
+    (after-take-over-from-run (after-run-for-answered c) .take-over .ensures)
+    (after-aim-of-from-run (after-run-for-answered c) .aim-of .ensures)
+    (after-run-for-answered c .run .ensures)
+    (at-start-from-run (after-run-for-answered c) .pre .1)
 
 same-length-2 : tie.Need-same-length-2
-same-length-2 c = (long-after (c .before .before .before .before .before .before .before .before .before .before .before .before .before .before .before .before .before .before .before .before .before .before .before .before .before .before .before .before .before .before .before .before .before .before .before .before .before .before .before .before .before .before .before .before .before .before .before .before .before .before .before .before .before .before .before .before .before .before .before .before .before .before .before .pre .0) (c .before .before .before .before .before .before .before .before .before .before .before .before .before .before .before .before .before .before .before .before .before .before .before .before .before .before .before .before .before .before .before .before .before .before .before .before .before .before .before .before .before .before .before .before .take-over .ensures) (c .before .before .before .before .before .before .before .before .before .before .before .before .before .before .before .before .before .before .before .before .before .before .before .before .before .before .before .before .before .aim-of .ensures) (c .before .before .before .before .before .before .before .before .before .before .before .before .before .before .before .before .before .before .before .before .before .run .ensures)) .sized .g ∙ sym (c .before .before .before .before .before .before .before .before .before .before .before .before .before .before .before .before .before .before .before .before .before .before .before .before .before .before .before .before .before .before .before .before .before .before .before .before .before .before .before .before .before .before .before .before .before .before .before .before .before .before .before .before .before .before .before .before .before .before .before .before .before .before .before .pre .0 .numbers .sized .g)
+same-length-2 c = after-run c .run .kept .1 .1 .0 ∙ after-take-over c .take-over .kept .1 .1 .0
 
 same-length-3 : tie.Need-same-length-3
-same-length-3 c = (long-after (c .before .before .before .before .before .before .before .before .before .before .before .before .before .before .before .before .before .before .before .before .before .before .before .before .before .before .before .before .before .before .before .before .before .before .before .before .before .before .before .before .before .before .before .before .before .before .before .before .before .before .before .before .before .before .before .before .before .before .before .before .before .before .before .pre .0) (c .before .before .before .before .before .before .before .before .before .before .before .before .before .before .before .before .before .before .before .before .before .before .before .before .before .before .before .before .before .before .before .before .before .before .before .before .before .before .before .before .before .before .before .before .take-over .ensures) (c .before .before .before .before .before .before .before .before .before .before .before .before .before .before .before .before .before .before .before .before .before .before .before .before .before .before .before .before .before .aim-of .ensures) (c .before .before .before .before .before .before .before .before .before .before .before .before .before .before .before .before .before .before .before .before .before .run .ensures)) .sized .rhs ∙ sym (c .before .before .before .before .before .before .before .before .before .before .before .before .before .before .before .before .before .before .before .before .before .before .before .before .before .before .before .before .before .before .before .before .before .before .before .before .before .before .before .before .before .before .before .before .before .before .before .before .before .before .before .before .before .before .before .before .before .before .before .before .before .before .before .pre .0 .numbers .sized .rhs)
+same-length-3 c = after-run c .run .kept .1 .1 .1 .0 ∙ after-take-over c .take-over .kept .1 .1 .1 .0
 
 same-length-4 : tie.Need-same-length-4
-same-length-4 c = (long-after (c .before .before .before .before .before .before .before .before .before .before .before .before .before .before .before .before .before .before .before .before .before .before .before .before .before .before .before .before .before .before .before .before .before .before .before .before .before .before .before .before .before .before .before .before .before .before .before .before .before .before .before .before .before .before .before .before .before .before .before .before .before .before .before .pre .0) (c .before .before .before .before .before .before .before .before .before .before .before .before .before .before .before .before .before .before .before .before .before .before .before .before .before .before .before .before .before .before .before .before .before .before .before .before .before .before .before .before .before .before .before .before .take-over .ensures) (c .before .before .before .before .before .before .before .before .before .before .before .before .before .before .before .before .before .before .before .before .before .before .before .before .before .before .before .before .before .aim-of .ensures) (c .before .before .before .before .before .before .before .before .before .before .before .before .before .before .before .before .before .before .before .before .before .run .ensures)) .sized .parent ∙ sym (c .before .before .before .before .before .before .before .before .before .before .before .before .before .before .before .before .before .before .before .before .before .before .before .before .before .before .before .before .before .before .before .before .before .before .before .before .before .before .before .before .before .before .before .before .before .before .before .before .before .before .before .before .before .before .before .before .before .before .before .before .before .before .before .pre .0 .numbers .sized .parent)
+same-length-4 c = after-run c .run .kept .1 .1 .1 .1 .0 ∙ after-take-over c .take-over .kept .1 .1 .1 .1 .0
 
 same-length-5 : tie.Need-same-length-5
-same-length-5 c = (long-after (c .before .before .before .before .before .before .before .before .before .before .before .before .before .before .before .before .before .before .before .before .before .before .before .before .before .before .before .before .before .before .before .before .before .before .before .before .before .before .before .before .before .before .before .before .before .before .before .before .before .before .before .before .before .before .before .before .before .before .before .before .before .before .before .pre .0) (c .before .before .before .before .before .before .before .before .before .before .before .before .before .before .before .before .before .before .before .before .before .before .before .before .before .before .before .before .before .before .before .before .before .before .before .before .before .before .before .before .before .before .before .before .take-over .ensures) (c .before .before .before .before .before .before .before .before .before .before .before .before .before .before .before .before .before .before .before .before .before .before .before .before .before .before .before .before .before .aim-of .ensures) (c .before .before .before .before .before .before .before .before .before .before .before .before .before .before .before .before .before .before .before .before .before .run .ensures)) .sized .k1 ∙ sym (c .before .before .before .before .before .before .before .before .before .before .before .before .before .before .before .before .before .before .before .before .before .before .before .before .before .before .before .before .before .before .before .before .before .before .before .before .before .before .before .before .before .before .before .before .before .before .before .before .before .before .before .before .before .before .before .before .before .before .before .before .before .before .before .pre .0 .numbers .sized .k1)
+same-length-5 c = after-run c .run .kept .1 .1 .1 .1 .1 .0 ∙ after-take-over c .take-over .kept .1 .1 .1 .1 .1 .0
 
 same-length-6 : tie.Need-same-length-6
-same-length-6 c = (long-after (c .before .before .before .before .before .before .before .before .before .before .before .before .before .before .before .before .before .before .before .before .before .before .before .before .before .before .before .before .before .before .before .before .before .before .before .before .before .before .before .before .before .before .before .before .before .before .before .before .before .before .before .before .before .before .before .before .before .before .before .before .before .before .before .pre .0) (c .before .before .before .before .before .before .before .before .before .before .before .before .before .before .before .before .before .before .before .before .before .before .before .before .before .before .before .before .before .before .before .before .before .before .before .before .before .before .before .before .before .before .before .before .take-over .ensures) (c .before .before .before .before .before .before .before .before .before .before .before .before .before .before .before .before .before .before .before .before .before .before .before .before .before .before .before .before .before .aim-of .ensures) (c .before .before .before .before .before .before .before .before .before .before .before .before .before .before .before .before .before .before .before .before .before .run .ensures)) .sized .k2 ∙ sym (c .before .before .before .before .before .before .before .before .before .before .before .before .before .before .before .before .before .before .before .before .before .before .before .before .before .before .before .before .before .before .before .before .before .before .before .before .before .before .before .before .before .before .before .before .before .before .before .before .before .before .before .before .before .before .before .before .before .before .before .before .before .before .before .pre .0 .numbers .sized .k2)
+same-length-6 c = after-run c .run .kept .1 .1 .1 .1 .1 .1 .0 ∙ after-take-over c .take-over .kept .1 .1 .1 .1 .1 .1 .0
 
 same-length-7 : tie.Need-same-length-7
-same-length-7 c = (long-after (c .before .before .before .before .before .before .before .before .before .before .before .before .before .before .before .before .before .before .before .before .before .before .before .before .before .before .before .before .before .before .before .before .before .before .before .before .before .before .before .before .before .before .before .before .before .before .before .before .before .before .before .before .before .before .before .before .before .before .before .before .before .before .before .pre .0) (c .before .before .before .before .before .before .before .before .before .before .before .before .before .before .before .before .before .before .before .before .before .before .before .before .before .before .before .before .before .before .before .before .before .before .before .before .before .before .before .before .before .before .before .before .take-over .ensures) (c .before .before .before .before .before .before .before .before .before .before .before .before .before .before .before .before .before .before .before .before .before .before .before .before .before .before .before .before .before .aim-of .ensures) (c .before .before .before .before .before .before .before .before .before .before .before .before .before .before .before .before .before .before .before .before .before .run .ensures)) .heap .tables .agree .lengthPlace ∙ sym (c .before .before .before .before .before .before .before .before .before .before .before .before .before .before .before .before .before .before .before .before .before .before .before .before .before .before .before .before .before .before .before .before .before .before .before .before .before .before .before .before .before .before .before .before .before .before .before .before .before .before .before .before .before .before .before .before .before .before .before .before .before .before .before .pre .0 .heap .tables .agree .lengthPlace)
+same-length-7 c = after-run c .run .kept .1 .1 .1 .1 .1 .1 .1 .0 ∙ after-take-over c .take-over .kept .1 .1 .1 .1 .1 .1 .1 .0
 
 same-length-8 : tie.Need-same-length-8
-same-length-8 c = (long-after (c .before .before .before .before .before .before .before .before .before .before .before .before .before .before .before .before .before .before .before .before .before .before .before .before .before .before .before .before .before .before .before .before .before .before .before .before .before .before .before .before .before .before .before .before .before .before .before .before .before .before .before .before .before .before .before .before .before .before .before .before .before .before .before .pre .0) (c .before .before .before .before .before .before .before .before .before .before .before .before .before .before .before .before .before .before .before .before .before .before .before .before .before .before .before .before .before .before .before .before .before .before .before .before .before .before .before .before .before .before .before .before .take-over .ensures) (c .before .before .before .before .before .before .before .before .before .before .before .before .before .before .before .before .before .before .before .before .before .before .before .before .before .before .before .before .before .aim-of .ensures) (c .before .before .before .before .before .before .before .before .before .before .before .before .before .before .before .before .before .before .before .before .before .run .ensures)) .heap .tables .agree .lengthList ∙ sym (c .before .before .before .before .before .before .before .before .before .before .before .before .before .before .before .before .before .before .before .before .before .before .before .before .before .before .before .before .before .before .before .before .before .before .before .before .before .before .before .before .before .before .before .before .before .before .before .before .before .before .before .before .before .before .before .before .before .before .before .before .before .before .before .pre .0 .heap .tables .agree .lengthList)
+same-length-8 c = after-run c .run .kept .1 .1 .1 .1 .1 .1 .1 .1 .0 ∙ after-take-over c .take-over .kept .1 .1 .1 .1 .1 .1 .1 .1 .0
 
 same-length-9 : tie.Need-same-length-9
 same-length-9 c = search needs
 
 returns-2 : tie.Need-returns-2
-returns-2 c = searched (c .before .before .before .before .before .before .before .before .before .before .before .before .before .before .before .before .before .before .before .before .before .before .before .before .before .before .before .before .before .before .before .before .before .before .before .before .before .before .before .before .before .before .before .before .before .before .before .before .before .before .before .before .before .before .before .before .before .before .before .before .before .before .before .pre .0) (c .before .before .before .before .before .before .before .before .before .before .before .before .before .before .before .before .before .before .before .before .before .before .before .before .before .before .before .before .before .before .before .before .before .before .before .before .before .before .before .before .before .before .before .before .take-over .ensures) (c .before .before .before .before .before .before .before .before .before .before .before .before .before .before .before .before .before .before .before .before .before .before .before .before .before .before .before .before .before .aim-of .ensures) (c .before .before .before .before .before .before .before .before .before .before .before .before .before .before .before .before .before .before .before .before .before .run .ensures) (c .before .before .before .before .before .before .before .before .before .before .before .before .before .before .before .before .before .before .before .before .before .before .before .before .before .before .before .before .before .before .before .before .before .before .before .before .before .before .before .before .before .before .before .before .before .before .before .before .before .before .before .before .if1 .left) (c .before .before .answered .ensures)
+returns-2 c =
+    searched
+    (at-start c .pre .0)
+    (after-take-over c .take-over .ensures)
+    (after-aim-of c .aim-of .ensures)
+    (after-run c .run .ensures)
+    (apart (after-take-over c) .if1 .left)
+    (c .before .before .answered .ensures)
 
 pub search-sound-spec : {M : Type 1} → statement M
 search-sound-spec =

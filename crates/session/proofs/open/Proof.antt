@@ -5,6 +5,16 @@ use borrow.Author.Needs.{needs}
 use Rattle.session.proofs.open.Statement.{statement}
 use Rattle.session.proofs.open.Tie as tie
 
+-- The places that the answers look back to.
+abbrev granted-for-begin : tie.After-begin-arg7 → tie.Else1
+granted-for-begin c = c .before .before .before .before .before .before .before
+
+abbrev after-begin : tie.After-slice-known14 → tie.After-begin
+after-begin c = c .before .before .before .before .before .before .before .before .before .before .before .before .before .before
+
+abbrev granted : tie.After-slice-known14 → tie.Else1
+granted c = granted-for-begin (after-begin c .before)
+
 open-refusal-requires : tie.Need-open-refusal-requires
 open-refusal-requires c κs = search needs
 
@@ -30,10 +40,16 @@ same-length-7 : tie.Need-same-length-7
 same-length-7 c = search needs
 
 returns : tie.Need-returns
-returns c = record { number = c .before .open-refusal .result; rules = c .before .open-refusal .ensures; answer = refusal-told _ (c .if1 .taken); refused = λ _. (refl, refl); done = λ z. absurd (c .if1 .taken z) }
+returns c = record {
+  number = c .before .open-refusal .result;
+  rules = c .before .open-refusal .ensures;
+  answer = refusal-told _ (c .if1 .taken);
+  refused = λ _. (refl, refl);
+  done = λ z. absurd (c .if1 .taken z);
+}
 
 begin-requires : tie.Need-begin-requires
-begin-requires c κs = open-granted (c .before .before .before .before .before .before .before .before .open-refusal .ensures) (c .before .before .before .before .before .before .before .if1 .left)
+begin-requires c κs = open-granted (granted-for-begin c .before .open-refusal .ensures) (granted-for-begin c .if1 .left)
 
 same-length-8 : tie.Need-same-length-8
 same-length-8 c = search needs
@@ -58,9 +74,9 @@ same-length-14 c = search needs
 
 returns-2 : tie.Need-returns-2
 returns-2 c =
-    let r = c .before .before .before .before .before .before .before .before .before .before .before .before .before .before .before .before .before .before .before .before .before .before .before .open-refusal in
-    let z = c .before .before .before .before .before .before .before .before .before .before .before .before .before .before .before .before .before .before .before .before .before .before .if1 .left in
-    record { number = r .result; rules = r .ensures; answer = done-told _ z; refused = λ n. absurd (n z); done = λ _. c .before .before .before .before .before .before .before .before .before .before .before .before .before .before .begin .ensures }
+    let r = granted c .before .open-refusal in
+    let z = granted c .if1 .left in
+    record { number = r .result; rules = r .ensures; answer = done-told _ z; refused = λ n. absurd (n z); done = λ _. after-begin c .begin .ensures }
 
 pub open-spec : {M : Type 1} → statement M
 open-spec =

@@ -11,6 +11,10 @@ use Rattle.plan.proofs.is_size.Reads as is-size-reads
 use Rattle.tables.proofs.is_sound.Reads as is-sound-reads
 use Rattle.tables.proofs.lengths_hold.Reads as lengths-hold-reads
 
+-- The places that the answers look back to.
+abbrev size-right : tie.After-is-sound → tie.Else1
+size-right c = c .before .before .before
+
 is-size-requires : tie.Need-is-size-requires
 is-size-requires c κs = search needs
 
@@ -33,13 +37,13 @@ is-sound-requires c κs =
 
 returns-3 : tie.Need-returns-3
 returns-3 c =
-    let z = c .before .before .before .before .before .is-size .ensures .so (not-false _ (c .before .before .before .before .if1 .left)) in
+    let z = size-right (c .before) .before .is-size .ensures .so (not-false _ (size-right (c .before) .if1 .left)) in
     let f = c .before .before .before .lengths-hold .ensures .so (not-false _ (c .before .before .if2 .left)) in
     holds z (holds f (fails (refuted (c .before .is-sound .ensures) (not-true _ (c .if3 .taken)))))
 
 returns-4 : tie.Need-returns-4
 returns-4 c =
-    let z = c .before .before .before .before .before .is-size .ensures .so (not-false _ (c .before .before .before .before .if1 .left)) in
+    let z = size-right (c .before) .before .is-size .ensures .so (not-false _ (size-right (c .before) .if1 .left)) in
     let f = c .before .before .before .lengths-hold .ensures .so (not-false _ (c .before .before .if2 .left)) in
     holds z (holds f (holds (c .before .is-sound .ensures .so (not-false _ (c .if3 .left))) passed))
 

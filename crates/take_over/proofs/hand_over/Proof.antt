@@ -4,6 +4,19 @@ use borrow.Author.Needs.{needs}
 use Rattle.take_over.proofs.hand_over.Statement.{statement}
 use Rattle.take_over.proofs.hand_over.Tie as tie
 
+-- The places that the answers look back to.
+abbrev at-start : tie.After-aim-of → tie.Start
+at-start c = c .before .before .before .before .before .before .before .before .before
+
+abbrev after-spot-of : tie.After-found-anew-arg6 → tie.After-spot-of
+after-spot-of c = c .before .before .before .before .before .before
+
+abbrev after-found-anew : tie.After-slice-known12 → tie.After-found-anew
+after-found-anew c = c .before .before .before .before .before .before .before .before .before .before .before .before
+
+abbrev after-aim-of : tie.After-slice-known12 → tie.After-aim-of
+after-aim-of c = after-spot-of (after-found-anew c .before) .before
+
 slice-write-parent : tie.Need-slice-write-parent
 slice-write-parent c = search needs
 
@@ -14,13 +27,16 @@ spot-of-requires : tie.Need-spot-of-requires
 spot-of-requires c κs = search needs
 
 found-anew-requires : tie.Need-found-anew-requires
-found-anew-requires c κs = let R = c .before .before .before .before .before .before .before .before .before .before .before .before .before .before .before .before .pre in let O = c .before .before .before .before .before .before .before .aim-of .ensures in (hand-aimed R O, (hand-held R O, ((R .small-g, R .small-rhs), hand-cell R O (c .before .before .before .before .before .before .spot-of .ensures))))
+found-anew-requires c κs =
+    let R = at-start (after-spot-of c .before) .pre in
+    let O = after-spot-of c .before .aim-of .ensures in
+    (hand-aimed R O, (hand-held R O, ((R .small-g, R .small-rhs), hand-cell R O (after-spot-of c .spot-of .ensures))))
 
 same-length : tie.Need-same-length
 same-length c = search needs
 
 same-length-2 : tie.Need-same-length-2
-same-length-2 c = hand-long (c .before .before .before .before .before .before .before .before .before .before .before .before .before .before .before .before .before .before .before .before .before .before .before .before .before .before .before .before .before .pre) (c .before .before .before .before .before .before .before .before .before .before .before .before .before .before .before .before .before .before .before .before .aim-of .ensures) (c .before .before .before .before .before .before .before .before .before .before .before .before .found-anew .ensures .0)
+same-length-2 c = hand-long (at-start (after-aim-of c) .pre) (after-aim-of c .aim-of .ensures) (after-found-anew c .found-anew .ensures .0)
 
 same-length-3 : tie.Need-same-length-3
 same-length-3 c = search needs
@@ -36,8 +52,8 @@ same-length-6 c = search needs
 
 returns : tie.Need-returns
 returns c =
-    let e = c .before .before .before .before .before .before .before .before .before .before .before .before .found-anew .ensures in
-    (hand-holds (c .before .before .before .before .before .before .before .before .before .before .before .before .before .before .before .before .before .before .before .before .before .before .before .before .before .before .before .before .before .pre) (c .before .before .before .before .before .before .before .before .before .before .before .before .before .before .before .before .before .before .before .before .aim-of .ensures) (e .0), e .1 .1)
+    let e = after-found-anew c .found-anew .ensures in
+    (hand-holds (at-start (after-aim-of c) .pre) (after-aim-of c .aim-of .ensures) (e .0), e .1 .1)
 
 pub hand-over-spec : {M : Type 1} → statement M
 hand-over-spec =

@@ -15,13 +15,30 @@ estimate-requires : tie.Need-estimate-requires
 estimate-requires c κs = both-placed (c .before .before .pre) (c .before .spot-of .ensures) (c .spot-of2 .ensures)
 
 cast-t : tie.Need-cast-t
-cast-t c = omega (arith, km-room (c .before .before .before .pre) (c .before .before .spot-of .ensures) (c .before .spot-of2 .ensures) (c .estimate .ensures))
+cast-t c =
+    omega (
+      arith,
+      km-room (c .before .before .before .pre) (c .before .before .spot-of .ensures) (c .before .spot-of2 .ensures) (c .estimate .ensures),
+    )
 
 add-t : tie.Need-add-t
-add-t c = omega (arith, km-room (c .before .before .before .before .pre) (c .before .before .before .spot-of .ensures) (c .before .before .spot-of2 .ensures) (c .before .estimate .ensures))
+add-t c =
+    omega (
+      arith,
+      km-room
+          (c .before .before .before .before .pre)
+          (c .before .before .before .spot-of .ensures)
+          (c .before .before .spot-of2 .ensures)
+          (c .before .estimate .ensures),
+    )
 
 returns : tie.Need-returns
-returns c = taken-is (c .before .before .before .before .pre) (c .before .before .before .spot-of .ensures) (c .before .before .spot-of2 .ensures) (c .before .estimate .ensures)
+returns c =
+    taken-is
+    (c .before .before .before .before .pre)
+    (c .before .before .before .spot-of .ensures)
+    (c .before .before .spot-of2 .ensures)
+    (c .before .estimate .ensures)
 
 pub target-taken-spec : {M : Type 1} → statement M
 target-taken-spec =
