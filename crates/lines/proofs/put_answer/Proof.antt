@@ -6,6 +6,19 @@ use borrow.Author.Needs.{needs}
 use Rattle.lines.proofs.put_answer.Statement.{statement}
 use Rattle.lines.proofs.put_answer.Tie as tie
 
+-- The places that the answers look back to.
+abbrev after-answer3 : tie.After-slice-known4 → tie.After-answer3
+after-answer3 c = c .before .before .before .before .before
+
+abbrev after-answer4 : tie.After-slice-known5 → tie.After-answer4
+after-answer4 c = c .before .before .before .before .before
+
+abbrev after-answer : tie.After-slice-known2 → tie.After-answer
+after-answer c = c .before .before .before .before .before .before
+
+abbrev after-answer2 : tie.After-slice-known3 → tie.After-answer2
+after-answer2 c = c .before .before .before .before .before .before
+
 enum-known-answer : tie.Need-enum-known-answer
 enum-known-answer c = search needs
 
@@ -41,26 +54,42 @@ same-length c = search needs
 
 returns : tie.Need-returns
 unfolding bytes
-returns c = put-line (c .before .before .before .before .before .before .before .before .before .before .args .way .now) (c .before .before .before .before .before .before .answer .given .1) (c .before .before .put-labelled .ensures)
+returns c =
+    put-line
+    (after-answer c .before .before .before .before .args .way .now)
+    (after-answer c .answer .given .1)
+    (c .before .before .put-labelled .ensures)
 
 same-length-2 : tie.Need-same-length-2
 same-length-2 c = search needs
 
 returns-2 : tie.Need-returns-2
 unfolding bytes
-returns-2 c = put-line (c .before .before .before .before .before .before .before .before .before .before .args .way .now) (c .before .before .before .before .before .before .answer2 .given .1) (c .before .before .put-labelled2 .ensures)
+returns-2 c =
+    put-line
+    (after-answer2 c .before .before .before .before .args .way .now)
+    (after-answer2 c .answer2 .given .1)
+    (c .before .before .put-labelled2 .ensures)
 
 same-length-3 : tie.Need-same-length-3
 same-length-3 c = search needs
 
 returns-3 : tie.Need-returns-3
-returns-3 c = put-line (c .before .before .before .before .before .before .before .before .before .args .way .now) (c .before .before .before .before .before .answer3 .given .1) (c .before .before .put-way .ensures)
+returns-3 c =
+    put-line
+    (after-answer3 c .before .before .before .before .args .way .now)
+    (after-answer3 c .answer3 .given .1)
+    (c .before .before .put-way .ensures)
 
 same-length-4 : tie.Need-same-length-4
 same-length-4 c = search needs
 
 returns-4 : tie.Need-returns-4
-returns-4 c = put-line (c .before .before .before .before .before .before .before .before .before .args .way .now) (c .before .before .before .before .before .answer4 .given .1) (c .before .before .put-refusal .ensures)
+returns-4 c =
+    put-line
+    (after-answer4 c .before .before .before .before .args .way .now)
+    (after-answer4 c .answer4 .given .1)
+    (c .before .before .put-refusal .ensures)
 
 pub put-answer-spec : {M : Type 1} → statement M
 put-answer-spec =
