@@ -9,6 +9,10 @@ use Rattle.change.proofs.change_move.Lts as lts
 use Rattle.change.proofs.change_sound.Reads as change-sound-reads
 use Rattle.session.proofs.table_refusal.Reads as table-refusal-reads
 
+-- The places that the answers look back to.
+abbrev else-1 : tie.After-change-sound-arg7 → tie.Else1
+else-1 c = c .before .before .before .before .before .before .before
+
 table-refusal-requires : tie.Need-table-refusal-requires
 table-refusal-requires c κs = search needs
 
@@ -34,10 +38,16 @@ same-length-7 : tie.Need-same-length-7
 same-length-7 c = search needs
 
 returns : tie.Need-returns
-returns c = record { number = c .before .table-refusal .result; rules = table-number (c .before .table-refusal .ensures) (λ z. omega (arith, z, c .if1 .taken)); answer = refusal-told _ (λ z. omega (arith, z, c .if1 .taken)); refused = λ _. (refl, refl); done = λ z. absurd (omega (arith, z, c .if1 .taken)) }
+returns c = record {
+  number = c .before .table-refusal .result;
+  rules = table-number (c .before .table-refusal .ensures) (λ z. omega (arith, z, c .if1 .taken));
+  answer = refusal-told _ (λ z. omega (arith, z, c .if1 .taken));
+  refused = λ _. (refl, refl);
+  done = λ z. absurd (omega (arith, z, c .if1 .taken));
+}
 
 change-sound-requires : tie.Need-change-sound-requires
-change-sound-requires c κs = tables-granted (c .before .before .before .before .before .before .before .before .table-refusal .ensures) (omega (arith, c .before .before .before .before .before .before .before .if1 .left))
+change-sound-requires c κs = tables-granted (else-1 c .before .table-refusal .ensures) (omega (arith, else-1 c .if1 .left))
 
 same-length-8 : tie.Need-same-length-8
 same-length-8 c = search needs

@@ -9,14 +9,39 @@ use Rattle.change.proofs.change_sound.Lts as lts
 use Rattle.change.proofs.move_refusal.Reads as move-refusal-reads
 use Rattle.change.proofs.work_in.Reads as work-in-reads
 
+-- The places that the answers look back to.
+abbrev at-start-for-move-refusal : tie.After-slice-known7 → tie.Start
+at-start-for-move-refusal c = c .before .before .before .before .before .before .before .before
+
+abbrev at-start-from-move-refusal : tie.After-move-refusal → tie.Start
+at-start-from-move-refusal c = at-start-for-move-refusal (c .before)
+
+abbrev else-1-for-work-in : tie.After-work-in-arg7 → tie.Else1
+else-1-for-work-in c = c .before .before .before .before .before .before .before
+
+abbrev after-work-in : tie.After-slice-known14 → tie.After-work-in
+after-work-in c = c .before .before .before .before .before .before .before .before .before .before .before .before .before .before
+
+abbrev else-1 : tie.After-slice-known14 → tie.Else1
+else-1 c = else-1-for-work-in (after-work-in c .before)
+
 move-refusal-requires : tie.Need-move-refusal-requires
-move-refusal-requires c κs = c .before .before .before .before .before .before .before .before .pre .plan .size
+move-refusal-requires c κs = at-start-for-move-refusal c .pre .plan .size
 
 returns : tie.Need-returns
-returns c = record { number = c .before .move-refusal .result; rules = sound-rules (c .before .before .before .before .before .before .before .before .before .before .pre) (c .before .move-refusal .ensures); answer = refusal-told _ (c .if1 .taken); refused = λ _. (refl, refl); done = λ z. absurd (c .if1 .taken z) }
+returns c = record {
+  number = c .before .move-refusal .result;
+  rules = sound-rules (at-start-from-move-refusal (c .before) .pre) (c .before .move-refusal .ensures);
+  answer = refusal-told _ (c .if1 .taken);
+  refused = λ _. (refl, refl);
+  done = λ z. absurd (c .if1 .taken z);
+}
 
 work-in-requires : tie.Need-work-in-requires
-work-in-requires c κs = change-granted (sound-rules (c .before .before .before .before .before .before .before .before .before .before .before .before .before .before .before .before .before .pre) (c .before .before .before .before .before .before .before .before .move-refusal .ensures)) (c .before .before .before .before .before .before .before .if1 .left)
+work-in-requires c κs =
+    change-granted
+    (sound-rules (at-start-from-move-refusal (else-1-for-work-in c .before) .pre) (else-1-for-work-in c .before .move-refusal .ensures))
+    (else-1-for-work-in c .if1 .left)
 
 same-length : tie.Need-same-length
 same-length c = search needs
@@ -40,7 +65,13 @@ same-length-7 : tie.Need-same-length-7
 same-length-7 c = search needs
 
 returns-2 : tie.Need-returns-2
-returns-2 c = record { number = c .before .before .before .before .before .before .before .before .before .before .before .before .before .before .before .before .before .before .before .before .before .before .before .move-refusal .result; rules = sound-rules (c .before .before .before .before .before .before .before .before .before .before .before .before .before .before .before .before .before .before .before .before .before .before .before .before .before .before .before .before .before .before .before .before .pre) (c .before .before .before .before .before .before .before .before .before .before .before .before .before .before .before .before .before .before .before .before .before .before .before .move-refusal .ensures); answer = done-told _ (c .before .before .before .before .before .before .before .before .before .before .before .before .before .before .before .before .before .before .before .before .before .before .if1 .left); refused = λ n. absurd (n (c .before .before .before .before .before .before .before .before .before .before .before .before .before .before .before .before .before .before .before .before .before .before .if1 .left)); done = λ _. (refl, c .before .before .before .before .before .before .before .before .before .before .before .before .before .before .work-in .ensures) }
+returns-2 c = record {
+  number = else-1 c .before .move-refusal .result;
+  rules = sound-rules (at-start-from-move-refusal (else-1 c .before) .pre) (else-1 c .before .move-refusal .ensures);
+  answer = done-told _ (else-1 c .if1 .left);
+  refused = λ n. absurd (n (else-1 c .if1 .left));
+  done = λ _. (refl, after-work-in c .work-in .ensures);
+}
 
 pub change-sound-spec : {M : Type 1} → statement M
 change-sound-spec =

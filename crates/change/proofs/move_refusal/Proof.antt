@@ -12,6 +12,10 @@ use Rattle.plan.proofs.is_byte.Reads as is-byte-reads
 use Rattle.plan.proofs.spot_of.Reads as spot-of-reads
 use Rattle.plan.proofs.stays_in.Reads as stays-in-reads
 
+-- The places that the answers look back to.
+abbrev else-2 : tie.After-is-byte → tie.Else2
+else-2 c = c .before .before .before .before
+
 mul-if1 : tie.Need-mul-if1
 mul-if1 c = omega (arith, area (c .before .pre))
 
@@ -30,20 +34,35 @@ stays-in-requires c κs =
     (omega (arith, c .before .if2 .left), record { row = q .0; column = q .1 })
 
 returns-3 : tie.Need-returns-3
-returns-3 c = holds (c .before .before .before .before .if1 .left) (fails (λ m. refuted (c .before .stays-in .ensures _ (c .before .before .spot-of .ensures) (c .before .before .before .before .if1 .left)) (not-true _ (c .if3 .taken)) (m .1)))
+returns-3 c =
+    holds
+    (c .before .before .before .before .if1 .left)
+    (fails (λ m. refuted (c .before .stays-in .ensures _
+    (c .before .before .spot-of .ensures)
+    (c .before .before .before .before .if1 .left)) (not-true _ (c .if3 .taken)) (m .1)))
 
 is-byte-requires : tie.Need-is-byte-requires
 is-byte-requires c κs = search needs
 
 returns-4 : tie.Need-returns-4
 returns-4 c =
-    let m = c .before .before .before .stays-in .ensures _ (c .before .before .before .before .spot-of .ensures) (c .before .before .before .before .before .before .if1 .left) .so (not-false _ (c .before .before .if3 .left)) in
-    holds (c .before .before .before .before .before .before .if1 .left) (holds (omega (arith, c .before .before .before .before .before .if2 .left), m) (fails (refuted (c .before .is-byte .ensures) (not-true _ (c .if4 .taken)))))
+    let m = c .before .before .before .stays-in .ensures _
+    (c .before .before .before .before .spot-of .ensures)
+    (else-2 (c .before) .before .if1 .left) .so
+    (not-false _ (c .before .before .if3 .left)) in
+    holds
+    (else-2 (c .before) .before .if1 .left)
+    (holds (omega (arith, else-2 (c .before) .if2 .left), m) (fails (refuted (c .before .is-byte .ensures) (not-true _ (c .if4 .taken)))))
 
 returns-5 : tie.Need-returns-5
 returns-5 c =
-    let m = c .before .before .before .stays-in .ensures _ (c .before .before .before .before .spot-of .ensures) (c .before .before .before .before .before .before .if1 .left) .so (not-false _ (c .before .before .if3 .left)) in
-    holds (c .before .before .before .before .before .before .if1 .left) (holds (omega (arith, c .before .before .before .before .before .if2 .left), m) (holds (c .before .is-byte .ensures .so (not-false _ (c .if4 .left))) passed))
+    let m = c .before .before .before .stays-in .ensures _
+    (c .before .before .before .before .spot-of .ensures)
+    (else-2 (c .before) .before .if1 .left) .so
+    (not-false _ (c .before .before .if3 .left)) in
+    holds
+    (else-2 (c .before) .before .if1 .left)
+    (holds (omega (arith, else-2 (c .before) .if2 .left), m) (holds (c .before .is-byte .ensures .so (not-false _ (c .if4 .left))) passed))
 
 pub move-refusal-spec : {M : Type 1} → statement M
 move-refusal-spec =

@@ -4,6 +4,10 @@ use borrow.Author.Needs.{needs}
 use Rattle.choices.proofs.effect_of.Statement.{statement}
 use Rattle.choices.proofs.effect_of.Tie as tie
 
+-- The places that the answers look back to.
+abbrev after-shared-slice-known3 : tie.After-sum-of → tie.After-shared-slice-known3
+after-shared-slice-known3 c = c .before .before .before .before .before .before .before .before
+
 mul-far : tie.Need-mul-far
 mul-far c = search needs
 
@@ -26,10 +30,15 @@ sum-of-requires : tie.Need-sum-of-requires
 sum-of-requires c κs = search needs
 
 cast-if3 : tie.Need-cast-if3
-cast-if3 c = omega (arith, c .before .before .before .before .before .before .before .before .shared-slice-known3 .given (c .before .before .before .before .before .before .before .before .before .before .before .args .v))
+cast-if3 c = omega (arith, after-shared-slice-known3 c .shared-slice-known3 .given (after-shared-slice-known3 c .before .before .before .args .v))
 
 cast-t25 : tie.Need-cast-t25
-cast-t25 c = omega (arith, c .if3 .taken, c .before .before .before .before .before .before .before .before .before .shared-slice-known3 .given (c .before .before .before .before .before .before .before .before .before .before .before .before .args .v))
+cast-t25 c =
+    omega (
+      arith,
+      c .if3 .taken,
+      after-shared-slice-known3 (c .before) .shared-slice-known3 .given (after-shared-slice-known3 (c .before) .before .before .before .args .v),
+    )
 
 returns-2 : tie.Need-returns-2
 returns-2 c = asked-falls (c .before .before .before .if1 .left) (c .before .before .if2 .taken) (c .before .sum-of .ensures) (c .if3 .taken)
@@ -47,7 +56,13 @@ anew-requires : tie.Need-anew-requires
 anew-requires c κs = search needs
 
 returns-6 : tie.Need-returns-6
-returns-6 c = asked-rises (c .before .before .before .before .if1 .left) (c .before .before .before .if2 .left) (c .before .before .if4 .left) (c .before .if5 .left) (c .anew .ensures)
+returns-6 c =
+    asked-rises
+    (c .before .before .before .before .if1 .left)
+    (c .before .before .before .if2 .left)
+    (c .before .before .if4 .left)
+    (c .before .if5 .left)
+    (c .anew .ensures)
 
 pub effect-of-spec : {M : Type 1} → statement M
 effect-of-spec =

@@ -6,6 +6,19 @@ use borrow.Author.Needs.{needs}
 use Rattle.choices.proofs.relaxation.Statement.{statement}
 use Rattle.choices.proofs.relaxation.Tie as tie
 
+-- The places that the answers look back to.
+abbrev at-start : tie.After-move-out → tie.Start
+at-start c = c .before .before .before
+
+abbrev after-reach : tie.Else1 → tie.After-reach
+after-reach c = c .before .before .before
+
+abbrev after-move-out : tie.Else1 → tie.After-move-out
+after-move-out c = after-reach c .before .before
+
+abbrev after-move-out-from-then-1 : tie.Then1 → tie.After-move-out
+after-move-out-from-then-1 c = c .before .before .before .before .before
+
 move-out-requires : tie.Need-move-out-requires
 move-out-requires c κs = search needs
 
@@ -17,13 +30,20 @@ enum-told c = search needs
 
 returns : tie.Need-returns
 returns c =
-    let p = c .before .before .before .before .before .pre in
+    let p = at-start (c .before .before) .pre in
     relaxes-none (p .0) _ _ (p .1 .1 .1) _ (said-shut _ (c .enum-told .given .1) (c .before .before .move-out .ensures))
 
 returns-2 : tie.Need-returns-2
 returns-2 c =
-    let p = c .before .before .before .before .before .before .before .before .pre in
-    relaxes-hunter (p .0) _ _ (p .1 .1 .1) _ (said-to _ (c .before .before .before .reach .given .1) (c .before .before .before .before .before .move-out .ensures)) (c .if1 .taken)
+    let p = at-start (after-move-out-from-then-1 c) .pre in
+    relaxes-hunter
+    (p .0)
+    _
+    _
+    (p .1 .1 .1)
+    _
+    (said-to _ (c .before .before .before .reach .given .1) (after-move-out-from-then-1 c .move-out .ensures))
+    (c .if1 .taken)
 
 cast-sum : tie.Need-cast-sum
 cast-sum c = search needs
@@ -33,23 +53,52 @@ add-sum c = search needs
 
 mul-if2 : tie.Need-mul-if2
 mul-if2 c =
-    let p = c .before .before .before .before .before .before .before .before .pre in
-    omega (arith, enters-by (p .0) _ _ (p .1 .1 .1) (said-to _ (c .before .before .before .reach .given .1) (c .before .before .before .before .before .move-out .ensures)) .0 .inside, area (p .0 .obeys .size))
+    let p = at-start (after-move-out c) .pre in
+    omega (
+      arith,
+      enters-by (p .0) _ _ (p .1 .1 .1) (said-to _ (after-reach c .reach .given .1) (after-move-out c .move-out .ensures)) .0 .inside,
+      area (p .0 .obeys .size),
+    )
 
 shared-slice-read-if2 : tie.Need-shared-slice-read-if2
 shared-slice-read-if2 c =
-    let p = c .before .before .before .before .before .before .before .before .before .pre in
-    omega (arith, enters-by (p .0) _ _ (p .1 .1 .1) (said-to _ (c .before .before .before .before .reach .given .1) (c .before .before .before .before .before .before .move-out .ensures)) .0 .inside, p .1 .0)
+    let p = at-start (after-move-out (c .before)) .pre in
+    omega (
+      arith,
+      enters-by
+          (p .0)
+          _
+          _
+          (p .1 .1 .1)
+          (said-to _ (after-reach (c .before) .reach .given .1) (after-move-out (c .before) .move-out .ensures)) .0 .inside,
+      p .1 .0,
+    )
 
 returns-3 : tie.Need-returns-3
 returns-3 c =
-    let p = c .before .before .before .before .before .before .before .before .before .before .pre in
-    relaxes-not (p .0) _ _ (p .1 .1 .1) _ (said-to _ (c .before .before .before .before .before .reach .given .1) (c .before .before .before .before .before .before .before .move-out .ensures)) (c .before .before .if1 .left) (c .if2 .taken)
+    let p = at-start (after-move-out (c .before .before)) .pre in
+    relaxes-not
+    (p .0)
+    _
+    _
+    (p .1 .1 .1)
+    _
+    (said-to _ (after-reach (c .before .before) .reach .given .1) (after-move-out (c .before .before) .move-out .ensures))
+    (c .before .before .if1 .left)
+    (c .if2 .taken)
 
 returns-4 : tie.Need-returns-4
 returns-4 c =
-    let p = c .before .before .before .before .before .before .before .before .before .before .pre in
-    relaxes-to (p .0) _ _ (p .1 .1 .1) _ (said-to _ (c .before .before .before .before .before .reach .given .1) (c .before .before .before .before .before .before .before .move-out .ensures)) (c .before .before .if1 .left) (c .if2 .left)
+    let p = at-start (after-move-out (c .before .before)) .pre in
+    relaxes-to
+    (p .0)
+    _
+    _
+    (p .1 .1 .1)
+    _
+    (said-to _ (after-reach (c .before .before) .reach .given .1) (after-move-out (c .before .before) .move-out .ensures))
+    (c .before .before .if1 .left)
+    (c .if2 .left)
 
 pub relaxation-spec : {M : Type 1} → statement M
 relaxation-spec =

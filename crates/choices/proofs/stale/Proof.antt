@@ -4,6 +4,10 @@ use borrow.Author.Needs.{needs}
 use Rattle.choices.proofs.stale.Statement.{statement}
 use Rattle.choices.proofs.stale.Tie as tie
 
+-- The places that the answers look back to.
+abbrev at-start : tie.After-lesser → tie.Start
+at-start c = c .before .before .before .before .before .before .before
+
 mul-lesser : tie.Need-mul-lesser
 mul-lesser c = search needs
 
@@ -21,7 +25,7 @@ lesser-requires c κs = search needs
 
 first-key-requires : tie.Need-first-key-requires
 first-key-requires c κs =
-    let K = c .before .before .before .before .before .before .before .pre in
+    let K = at-start c .pre in
     let q = placed (K .size) (K .stands) (K .inside) in
     let r = placed (K .size) (K .target-at) (K .target-in) in
     ((record { row = q .0; column = q .1 }, r .0, r .1), key-room K (c .lesser .ensures))
@@ -42,7 +46,12 @@ precedes-requires : tie.Need-precedes-requires
 precedes-requires c κs = search needs
 
 returns : tie.Need-returns
-returns c = stale-is (c .before .before .before .before .before .before .before .before .before .before .before .pre) (c .before .before .before .before .lesser .ensures) (c .before .before .before .first-key .ensures) (c .precedes .ensures)
+returns c =
+    stale-is
+    (at-start (c .before .before .before .before) .pre)
+    (c .before .before .before .before .lesser .ensures)
+    (c .before .before .before .first-key .ensures)
+    (c .precedes .ensures)
 
 pub stale-spec : {M : Type 1} → statement M
 stale-spec =

@@ -4,11 +4,24 @@ use borrow.Author.Needs.{needs}
 use Rattle.entries.proofs.begin.Statement.{statement}
 use Rattle.entries.proofs.begin.Tie as tie
 
+-- The places that the answers look back to.
+abbrev at-start : tie.After-aim-of → tie.Start
+at-start c = c .before .before .before .before .before .before .before .before .before
+
+abbrev after-aim-of-for-fresh : tie.After-fresh-arg7 → tie.After-aim-of
+after-aim-of-for-fresh c = c .before .before .before .before .before .before .before
+
+abbrev after-fresh : tie.After-slice-known14 → tie.After-fresh
+after-fresh c = c .before .before .before .before .before .before .before .before .before .before .before .before .before .before
+
+abbrev after-aim-of : tie.After-slice-known14 → tie.After-aim-of
+after-aim-of c = after-aim-of-for-fresh (after-fresh c .before)
+
 aim-of-requires : tie.Need-aim-of-requires
 aim-of-requires c κs = search needs
 
 fresh-requires : tie.Need-fresh-requires
-fresh-requires c κs = begin-ready (c .before .before .before .before .before .before .before .before .before .before .before .before .before .before .before .before .pre) (c .before .before .before .before .before .before .before .aim-of .ensures)
+fresh-requires c κs = begin-ready (at-start (after-aim-of-for-fresh c) .pre) (after-aim-of-for-fresh c .aim-of .ensures)
 
 same-length : tie.Need-same-length
 same-length c = search needs
@@ -32,7 +45,9 @@ same-length-7 : tie.Need-same-length-7
 same-length-7 c = search needs
 
 returns : tie.Need-returns
-returns c = let f = c .before .before .before .before .before .before .before .before .before .before .before .before .before .before .fresh .ensures in (begun-by (f .1), opened-by (c .before .before .before .before .before .before .before .before .before .before .before .before .before .before .before .before .before .before .before .before .before .before .before .before .before .before .before .before .before .before .before .pre) (c .before .before .before .before .before .before .before .before .before .before .before .before .before .before .before .before .before .before .before .before .before .before .aim-of .ensures) refl (f .0) (f .1))
+returns c =
+    let f = after-fresh c .fresh .ensures in
+    (begun-by (f .1), opened-by (at-start (after-aim-of c) .pre) (after-aim-of c .aim-of .ensures) refl (f .0) (f .1))
 
 pub begin-spec : {M : Type 1} → statement M
 begin-spec =

@@ -3,6 +3,19 @@ use borrow.Author.Needs.{needs}
 use Rattle.entries.proofs.found_anew.Statement.{statement}
 use Rattle.entries.proofs.found_anew.Tie as tie
 
+-- The places that the answers look back to.
+abbrev at-start : tie.After-anew → tie.Start
+at-start c = c .before .before .before .before .before .before .before .before .before
+
+abbrev after-anew-for-set-right : tie.After-set-right-arg5 → tie.After-anew
+after-anew-for-set-right c = c .before .before .before .before .before
+
+abbrev after-set-right : tie.After-slice-known10 → tie.After-set-right
+after-set-right c = c .before .before .before .before .before .before .before .before
+
+abbrev after-anew : tie.After-slice-known10 → tie.After-anew
+after-anew c = after-anew-for-set-right (after-set-right c .before)
+
 anew-requires : tie.Need-anew-requires
 anew-requires c κs = search needs
 
@@ -17,9 +30,15 @@ slice-write-parent c = search needs
 
 set-right-requires : tie.Need-set-right-requires
 set-right-requires c κs =
-    let p = c .before .before .before .before .before .before .before .before .before .before .before .before .before .before .pre in
-    let f = found-small _ _ (p .0) (p .1 .1 .0 .0) (c .before .before .before .before .before .anew .ensures) in
-    entering (p .0) (held-rhs _ _ 0 (p .1 .0)) (p .1 .1 .0 .0) (small-rhs _ _ (p .1 .0) (p .1 .1 .1 .0) f (p .1 .1 .0 .1)) (p .1 .1 .1 .0) (p .1 .1 .1 .1)
+    let p = at-start (after-anew-for-set-right c) .pre in
+    let f = found-small _ _ (p .0) (p .1 .1 .0 .0) (after-anew-for-set-right c .anew .ensures) in
+    entering
+    (p .0)
+    (held-rhs _ _ 0 (p .1 .0))
+    (p .1 .1 .0 .0)
+    (small-rhs _ _ (p .1 .0) (p .1 .1 .1 .0) f (p .1 .1 .0 .1))
+    (p .1 .1 .1 .0)
+    (p .1 .1 .1 .1)
 
 same-length : tie.Need-same-length
 same-length c = search needs
@@ -41,10 +60,12 @@ same-length-6 c = search needs
 
 returns : tie.Need-returns
 returns c =
-    let p = c .before .before .before .before .before .before .before .before .before .before .before .before .before .before .before .before .before .before .before .before .before .before .before .pre in
-    let f = found-small _ _ (p .0) (p .1 .1 .0 .0) (c .before .before .before .before .before .before .before .before .before .before .before .before .before .before .anew .ensures) in
-    let e = c .before .before .before .before .before .before .before .before .set-right .ensures in
-    (became-anew _ _ _ _ _ _ _ (c .before .before .before .before .before .before .before .before .before .before .before .before .before .before .before .before .before .before .before .before .before .before .before .args .list .now) (c .before .before .before .before .before .before .before .before .before .before .before .before .before .before .anew .ensures) (e .0), (small-rhs _ _ (p .1 .0) (p .1 .1 .1 .0) f (p .1 .1 .0 .1), e .1))
+    let p = at-start (after-anew c) .pre in
+    let f = found-small _ _ (p .0) (p .1 .1 .0 .0) (after-anew c .anew .ensures) in
+    let e = after-set-right c .set-right .ensures in (
+      became-anew _ _ _ _ _ _ _ (at-start (after-anew c) .args .list .now) (after-anew c .anew .ensures) (e .0),
+      (small-rhs _ _ (p .1 .0) (p .1 .1 .1 .0) f (p .1 .1 .0 .1), e .1),
+    )
 
 pub found-anew-spec : {M : Type 1} → statement M
 found-anew-spec =

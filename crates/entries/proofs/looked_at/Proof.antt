@@ -5,6 +5,16 @@ use borrow.Author.Needs.{needs}
 use Rattle.entries.proofs.looked_at.Statement.{statement}
 use Rattle.entries.proofs.looked_at.Tie as tie
 
+-- The places that the answers look back to.
+abbrev at-start : tie.After-reach → tie.Start
+at-start c = c .before .before .before .before .before
+
+abbrev after-reach : tie.Else1 → tie.After-reach
+after-reach c = c .before .before .before
+
+abbrev after-reach-from-then-1 : tie.Then1 → tie.After-reach
+after-reach-from-then-1 c = c .before .before .before
+
 move-into-requires : tie.Need-move-into-requires
 move-into-requires c κs = search needs
 
@@ -19,27 +29,45 @@ returns c = looked-shut _ _ (said-shut _ (c .enum-told .given .1) (c .before .be
 
 mul-far : tie.Need-mul-far
 mul-far c =
-    let p = c .before .before .before .before .before .before .pre in
-    omega (arith, neighbour-in _ (p .0) _ _ (p .1 .1 .1) (said-to _ (c .before .reach .given .1) (c .before .before .before .move-into .ensures)), area (p .0 .size))
+    let p = at-start (c .before) .pre in
+    omega (
+      arith,
+      neighbour-in _ (p .0) _ _ (p .1 .1 .1) (said-to _ (c .before .reach .given .1) (c .before .before .before .move-into .ensures)),
+      area (p .0 .size),
+    )
 
 shared-slice-read-far : tie.Need-shared-slice-read-far
 shared-slice-read-far c =
-    let p = c .before .before .before .before .before .before .before .pre in
-    omega (arith, neighbour-in _ (p .0) _ _ (p .1 .1 .1) (said-to _ (c .before .before .reach .given .1) (c .before .before .before .before .move-into .ensures)), p .1 .0 .0)
+    let p = at-start (c .before .before) .pre in
+    omega (
+      arith,
+      neighbour-in _ (p .0) _ _ (p .1 .1 .1) (said-to _ (c .before .before .reach .given .1) (c .before .before .before .before .move-into .ensures)),
+      p .1 .0 .0,
+    )
 
 returns-2 : tie.Need-returns-2
-returns-2 c = looked-left _ _ (said-to _ (c .before .before .before .reach .given .1) (c .before .before .before .before .before .move-into .ensures)) (omega arith)
+returns-2 c =
+    looked-left _ _
+    (said-to _ (after-reach-from-then-1 c .reach .given .1) (after-reach-from-then-1 c .before .before .move-into .ensures))
+    (omega arith)
 
 cast-sum : tie.Need-cast-sum
 cast-sum c = search needs
 
 add-sum : tie.Need-add-sum
 add-sum c =
-    let p = c .before .before .before .before .before .before .before .before .pre in
-    omega (arith, neighbour-in _ (p .0) _ _ (p .1 .1 .1) (said-to _ (c .before .before .before .reach .given .1) (c .before .before .before .before .before .move-into .ensures)), finite-small (c .before .before .before .before .before .before .before .before .args .g .now) (p .1 .0 .1) (c .before .before .before .reach .given .0 .0) (c .if1 .left))
+    let p = at-start (after-reach c) .pre in
+    omega (
+      arith,
+      neighbour-in _ (p .0) _ _ (p .1 .1 .1) (said-to _ (after-reach c .reach .given .1) (after-reach c .before .before .move-into .ensures)),
+      finite-small (at-start (after-reach c) .args .g .now) (p .1 .0 .1) (after-reach c .reach .given .0 .0) (c .if1 .left),
+    )
 
 returns-3 : tie.Need-returns-3
-returns-3 c = looked-left _ _ (said-to _ (c .before .before .before .before .before .reach .given .1) (c .before .before .before .before .before .before .before .move-into .ensures)) (c .if2 .taken)
+returns-3 c =
+    looked-left _ _
+    (said-to _ (after-reach (c .before .before) .reach .given .1) (after-reach (c .before .before) .before .before .move-into .ensures))
+    (c .if2 .taken)
 
 add-t13 : tie.Need-add-t13
 add-t13 c = search needs
@@ -48,7 +76,10 @@ cast-t17 : tie.Need-cast-t17
 cast-t17 c = search needs
 
 returns-4 : tie.Need-returns-4
-returns-4 c = looked-taken _ _ (said-to _ (c .before .before .before .before .before .reach .given .1) (c .before .before .before .before .before .before .before .move-into .ensures)) (c .if2 .left)
+returns-4 c =
+    looked-taken _ _
+    (said-to _ (after-reach (c .before .before) .reach .given .1) (after-reach (c .before .before) .before .before .move-into .ensures))
+    (c .if2 .left)
 
 pub looked-at-spec : {M : Type 1} → statement M
 looked-at-spec =

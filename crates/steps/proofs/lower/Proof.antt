@@ -19,81 +19,148 @@ use Rattle.steps.proofs.lower.Tie as tie
 abbrev Inv-loop : tie.InvT-loop
 Inv-loop a plan g rhs₀ parent₀ k1₀ k2₀ place₀ list₀ count u at v n₀ d₀ rhs parent k1 k2 place list n d =
     (d ≤ 4)
-    × (core (tables plan g rhs parent k1 k2 place list) ≡ relaxedAll (hunt a plan) v (core (tables plan g rhs₀ parent₀ k1₀ k2₀ place₀ list₀)) (upTo (outBy (floor a plan) u) d))
+    × (core
+    (tables plan g rhs parent k1 k2 place list) ≡
+    relaxedAll
+    (hunt a plan)
+    v
+    (core (tables plan g rhs₀ parent₀ k1₀ k2₀ place₀ list₀))
+    (upTo (outBy (floor a plan) u) d))
     × Held a n (tables plan g rhs parent k1 k2 place list)
     × Small mostRhs rhs
 
 abbrev μ-loop : tie.MeasureT-loop
 μ-loop a plan g rhs₀ parent₀ k1₀ k2₀ place₀ list₀ count u at v n₀ d₀ rhs parent k1 k2 place list n d = 4 - d
 
+-- The places that the answers look back to.
+abbrev at-start-for-mul-v : tie.After-slice-known7 Inv-loop μ-loop → tie.Start Inv-loop μ-loop
+at-start-for-mul-v c = c .before .before .before .before .before .before .before .before
+
+abbrev at-start-for-slice-read-v : tie.After-slice-known8 Inv-loop μ-loop → tie.Start Inv-loop μ-loop
+at-start-for-slice-read-v c = at-start-for-mul-v (c .before)
+
+abbrev at-start-for-set-right : tie.After-set-right-arg6 Inv-loop μ-loop → tie.Start Inv-loop μ-loop
+at-start-for-set-right c = at-start-for-slice-read-v (c .before .before .before .before .before .before)
+
+abbrev after-set-right-for-loop-holds : tie.After-slice-known12 Inv-loop μ-loop → tie.After-set-right Inv-loop μ-loop
+after-set-right-for-loop-holds c = c .before .before .before .before .before .before .before .before
+
+abbrev at-start-for-loop-holds : tie.After-slice-known12 Inv-loop μ-loop → tie.Start Inv-loop μ-loop
+at-start-for-loop-holds c = at-start-for-set-right (after-set-right-for-loop-holds c .before)
+
+abbrev at-start-from-loop : tie.At-loop Inv-loop μ-loop → tie.Start Inv-loop μ-loop
+at-start-from-loop c = at-start-for-loop-holds (c .before)
+
+abbrev after-set-right-from-loop : tie.After-loop Inv-loop μ-loop → tie.After-set-right Inv-loop μ-loop
+after-set-right-from-loop c = after-set-right-for-loop-holds (c .before .before)
+
+abbrev in-loop-for-relax : tie.After-relax-arg7 Inv-loop μ-loop → tie.In-loop Inv-loop μ-loop
+in-loop-for-relax c = c .before .before .before .before .before .before .before
+
+abbrev after-relax : tie.After-slice-known18 Inv-loop μ-loop → tie.After-relax Inv-loop μ-loop
+after-relax c = c .before .before .before .before .before .before .before .before .before .before .before .before
+
+abbrev in-loop : tie.After-slice-known18 Inv-loop μ-loop → tie.In-loop Inv-loop μ-loop
+in-loop c = in-loop-for-relax (after-relax c .before)
+
 mul-v : tie.Need-mul-v Inv-loop μ-loop
-mul-v c = let p = c .before .before .before .before .before .before .before .before .pre in omega (arith, p .1 .1 .1 .0, area (p .0 .obeys .size))
+mul-v c = let p = at-start-for-mul-v c .pre in omega (arith, p .1 .1 .1 .0, area (p .0 .obeys .size))
 
 slice-read-v : tie.Need-slice-read-v Inv-loop μ-loop
-slice-read-v c = let p = c .before .before .before .before .before .before .before .before .before .pre in omega (arith, p .1 .1 .1 .0, p .1 .0 .sized .rhs)
+slice-read-v c = let p = at-start-for-slice-read-v c .pre in omega (arith, p .1 .1 .1 .0, p .1 .0 .sized .rhs)
 
 mul-g : tie.Need-mul-g Inv-loop μ-loop
-mul-g c = let p = c .before .before .before .before .before .before .before .before .before .pre in omega (arith, p .1 .1 .1 .0, area (p .0 .obeys .size))
+mul-g c = let p = at-start-for-slice-read-v c .pre in omega (arith, p .1 .1 .1 .0, area (p .0 .obeys .size))
 
 slice-write-g : tie.Need-slice-write-g Inv-loop μ-loop
-slice-write-g c = let p = c .before .before .before .before .before .before .before .before .before .pre in omega (arith, p .1 .1 .1 .0, p .1 .0 .sized .g)
+slice-write-g c = let p = at-start-for-slice-read-v c .pre in omega (arith, p .1 .1 .1 .0, p .1 .0 .sized .g)
 
 set-right-requires : tie.Need-set-right-requires Inv-loop μ-loop
 set-right-requires c κs =
-    let p = c .before .before .before .before .before .before .before .before .before .before .before .before .before .before .before .pre in
-    let v = lower-finite (c .before .before .before .before .before .before .before .before .before .before .before .before .before .before .before .args .u) (p .1 .0) (p .1 .1 .0 .0) (p .1 .1 .0 .1) (p .1 .1 .1 .2) in
-    entering (p .0) (held-g _ _ (p .1 .0)) (small-g _ _ (p .1 .0) (p .1 .1 .1 .0) (inr v) (p .1 .1 .0 .0)) (rhs-small (p .1 .0) (p .1 .1 .0 .1)) (p .1 .1 .1 .0) (p .1 .1 .1 .1)
+    let p = at-start-for-set-right c .pre in
+    let v = lower-finite (at-start-for-set-right c .args .u) (p .1 .0) (p .1 .1 .0 .0) (p .1 .1 .0 .1) (p .1 .1 .1 .2) in
+    entering
+    (p .0)
+    (held-g _ _ (p .1 .0))
+    (small-g _ _ (p .1 .0) (p .1 .1 .1 .0) (inr v) (p .1 .1 .0 .0))
+    (rhs-small (p .1 .0) (p .1 .1 .0 .1))
+    (p .1 .1 .1 .0)
+    (p .1 .1 .1 .1)
 
 loop-holds : tie.Need-loop-holds Inv-loop μ-loop
 loop-holds c =
-    let p = c .before .before .before .before .before .before .before .before .before .before .before .before .before .before .before .before .before .before .before .before .before .before .before .before .pre in
-    (omega arith, relaxed-first _ _ _ _, became-held (setRight-sized (held-g _ _ (p .1 .0) .sized) _ _) (c .before .before .before .before .before .before .before .before .set-right .ensures .0 _ _), rhs-small (p .1 .0) (p .1 .1 .0 .1))
+    let p = at-start-for-loop-holds c .pre in (
+      omega arith,
+      relaxed-first _ _ _ _,
+      became-held (setRight-sized (held-g _ _ (p .1 .0) .sized) _ _) (after-set-right-for-loop-holds c .set-right .ensures .0 _ _),
+      rhs-small (p .1 .0) (p .1 .1 .0 .1),
+    )
 
 relax-requires : tie.Need-relax-requires Inv-loop μ-loop
 relax-requires c κs =
-    let p = c .before .before .before .before .before .before .before .before .before .before .before .before .before .before .before .before .before .before .before .before .before .before .before .before .before .before .before .before .before .before .before .before .before .pre in
-    let i = c .before .before .before .before .before .before .before .before .loop .inv in
-    let v = lower-finite (c .before .before .before .before .before .before .before .before .before .before .before .before .before .before .before .before .before .before .before .before .before .before .before .before .before .before .before .before .before .before .before .before .before .args .u) (p .1 .0) (p .1 .1 .0 .0) (p .1 .1 .0 .1) (p .1 .1 .1 .2) in
-    (p .0, (i .2, ((small-g _ _ (p .1 .0) (p .1 .1 .1 .0) (inr v) (p .1 .1 .0 .0), i .3), (p .1 .1 .1 .0, p .1 .1 .1 .1, c .before .before .before .before .before .before .before .loop-test .taken, v))))
+    let p = at-start-from-loop (in-loop-for-relax c .before) .pre in
+    let i = in-loop-for-relax c .before .loop .inv in
+    let v = lower-finite (at-start-from-loop (in-loop-for-relax c .before) .args .u) (p .1 .0) (p .1 .1 .0 .0) (p .1 .1 .0 .1) (p .1 .1 .1 .2) in (
+      p .0,
+      (
+        i .2,
+        (
+          (small-g _ _ (p .1 .0) (p .1 .1 .1 .0) (inr v) (p .1 .1 .0 .0), i .3),
+          (p .1 .1 .1 .0, p .1 .1 .1 .1, in-loop-for-relax c .loop-test .taken, v),
+        ),
+      ),
+    )
 
 add-d : tie.Need-add-d Inv-loop μ-loop
-add-d c = omega (arith, c .before .before .before .before .before .before .before .before .before .before .before .before .before .before .before .before .before .before .before .before .loop-test .taken)
+add-d c = omega (arith, in-loop c .loop-test .taken)
 
 loop-less : tie.Need-loop-less Inv-loop μ-loop
-loop-less c = omega (arith, c .before .before .before .before .before .before .before .before .before .before .before .before .before .before .before .before .before .before .before .before .loop-test .taken)
+loop-less c = omega (arith, in-loop c .loop-test .taken)
 
 loop-again : tie.Need-loop-again Inv-loop μ-loop
 loop-again c =
-    let i = c .before .before .before .before .before .before .before .before .before .before .before .before .before .before .before .before .before .before .before .before .before .loop .inv in
-    let e = c .before .before .before .before .before .before .before .before .before .before .before .before .relax .ensures in
-    (omega (arith, c .before .before .before .before .before .before .before .before .before .before .before .before .before .before .before .before .before .before .before .before .loop-test .taken), relaxed-more _ _ _ _ _ (i .1) (e .0 .is), became-held (relaxedAll-sized (i .2 .sized) _ _ _) (e .0), e .1 .0)
+    let i = in-loop c .before .loop .inv in
+    let e = after-relax c .relax .ensures in (
+      omega (arith, in-loop c .loop-test .taken),
+      relaxed-more _ _ _ _ _ (i .1) (e .0 .is),
+      became-held (relaxedAll-sized (i .2 .sized) _ _ _) (e .0),
+      e .1 .0,
+    )
 
 same-length : tie.Need-same-length Inv-loop μ-loop
 same-length c = search needs
 
 same-length-2 : tie.Need-same-length-2 Inv-loop μ-loop
-same-length-2 c = c .before .loop .inv .2 .sized .rhs ∙ sym (c .before .before .before .before .before .before .before .before .before .before .before .before .before .before .before .before .before .before .before .before .before .before .before .before .before .before .pre .1 .0 .sized .rhs)
+same-length-2 c = c .before .loop .inv .2 .sized .rhs ∙ sym (at-start-from-loop (c .before) .pre .1 .0 .sized .rhs)
 
 same-length-3 : tie.Need-same-length-3 Inv-loop μ-loop
-same-length-3 c = c .before .loop .inv .2 .sized .parent ∙ sym (c .before .before .before .before .before .before .before .before .before .before .before .before .before .before .before .before .before .before .before .before .before .before .before .before .before .before .pre .1 .0 .sized .parent)
+same-length-3 c = c .before .loop .inv .2 .sized .parent ∙ sym (at-start-from-loop (c .before) .pre .1 .0 .sized .parent)
 
 same-length-4 : tie.Need-same-length-4 Inv-loop μ-loop
-same-length-4 c = c .before .loop .inv .2 .sized .k1 ∙ sym (c .before .before .before .before .before .before .before .before .before .before .before .before .before .before .before .before .before .before .before .before .before .before .before .before .before .before .pre .1 .0 .sized .k1)
+same-length-4 c = c .before .loop .inv .2 .sized .k1 ∙ sym (at-start-from-loop (c .before) .pre .1 .0 .sized .k1)
 
 same-length-5 : tie.Need-same-length-5 Inv-loop μ-loop
-same-length-5 c = c .before .loop .inv .2 .sized .k2 ∙ sym (c .before .before .before .before .before .before .before .before .before .before .before .before .before .before .before .before .before .before .before .before .before .before .before .before .before .before .pre .1 .0 .sized .k2)
+same-length-5 c = c .before .loop .inv .2 .sized .k2 ∙ sym (at-start-from-loop (c .before) .pre .1 .0 .sized .k2)
 
 same-length-6 : tie.Need-same-length-6 Inv-loop μ-loop
-same-length-6 c = c .before .loop .inv .2 .heap .tables .agree .lengthPlace ∙ sym (c .before .before .before .before .before .before .before .before .before .before .before .before .before .before .before .before .before .before .before .before .before .before .before .before .before .before .pre .1 .0 .heap .tables .agree .lengthPlace)
+same-length-6 c =
+    c .before .loop .inv .2 .heap .tables .agree .lengthPlace ∙ sym (at-start-from-loop (c .before) .pre .1 .0 .heap .tables .agree .lengthPlace)
 
 same-length-7 : tie.Need-same-length-7 Inv-loop μ-loop
-same-length-7 c = c .before .loop .inv .2 .heap .tables .agree .lengthList ∙ sym (c .before .before .before .before .before .before .before .before .before .before .before .before .before .before .before .before .before .before .before .before .before .before .before .before .before .before .pre .1 .0 .heap .tables .agree .lengthList)
+same-length-7 c =
+    c .before .loop .inv .2 .heap .tables .agree .lengthList ∙ sym (at-start-from-loop (c .before) .pre .1 .0 .heap .tables .agree .lengthList)
 
 returns : tie.Need-returns Inv-loop μ-loop
 returns c =
-    let p = c .before .before .before .before .before .before .before .before .before .before .before .before .before .before .before .before .before .before .before .before .before .before .before .before .before .before .pre in
+    let p = at-start-from-loop (c .before) .pre in
     let i = c .before .loop .inv in
-    lower-is _ _ _ _ _ _ _ _ _ (c .before .before .before .before .before .before .before .before .before .before .before .before .before .before .before .before .before .before .before .before .before .before .before .before .before .before .args .list .now) (omega (arith, p .1 .0 .sized .g, p .1 .1 .1 .0)) (omega (arith, i .0, c .loop-test .left)) (c .before .before .before .before .before .before .before .before .before .before .set-right .ensures .0 _ _ .is) (i .1) (i .2)
+    lower-is _ _ _ _ _ _ _ _ _
+    (at-start-from-loop (c .before) .args .list .now)
+    (omega (arith, p .1 .0 .sized .g, p .1 .1 .1 .0))
+    (omega (arith, i .0, c .loop-test .left))
+    (after-set-right-from-loop c .set-right .ensures .0 _ _ .is)
+    (i .1)
+    (i .2)
 
 pub lower-spec : {M : Type 1} → statement M
 lower-spec =

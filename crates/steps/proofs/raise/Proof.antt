@@ -18,73 +18,133 @@ use Rattle.steps.proofs.raise.Tie as tie
 abbrev Inv-loop : tie.InvT-loop
 Inv-loop a plan g rhs₀ parent₀ k1₀ k2₀ place₀ list₀ count u at n₀ d₀ rhs parent k1 k2 place list n d =
     (d ≤ 4)
-    × (core (tables plan g rhs parent k1 k2 place list) ≡ renewedAll (hunt a plan) (core (tables plan g rhs₀ parent₀ k1₀ k2₀ place₀ list₀)) (upTo (outBy (floor a plan) u) d))
+    × (core
+    (tables plan g rhs parent k1 k2 place list) ≡
+    renewedAll
+    (hunt a plan)
+    (core (tables plan g rhs₀ parent₀ k1₀ k2₀ place₀ list₀))
+    (upTo (outBy (floor a plan) u) d))
     × Held a n (tables plan g rhs parent k1 k2 place list)
     × Small mostRhs rhs
 
 abbrev μ-loop : tie.MeasureT-loop
 μ-loop a plan g rhs₀ parent₀ k1₀ k2₀ place₀ list₀ count u at n₀ d₀ rhs parent k1 k2 place list n d = 4 - d
 
+-- The places that the answers look back to.
+abbrev at-start-for-mul-g : tie.After-slice-known7 Inv-loop μ-loop → tie.Start Inv-loop μ-loop
+at-start-for-mul-g c = c .before .before .before .before .before .before .before .before
+
+abbrev at-start-from-loop : tie.At-loop Inv-loop μ-loop → tie.Start Inv-loop μ-loop
+at-start-from-loop c = at-start-for-mul-g (c .before)
+
+abbrev after-loop-for-set-right : tie.After-set-right-arg6 Inv-loop μ-loop → tie.After-loop Inv-loop μ-loop
+after-loop-for-set-right c = c .before .before .before .before .before .before
+
+abbrev at-loop : tie.After-set-right-arg6 Inv-loop μ-loop → tie.At-loop Inv-loop μ-loop
+at-loop c = after-loop-for-set-right c .before
+
+abbrev in-loop-for-renew : tie.After-renew-arg7 Inv-loop μ-loop → tie.In-loop Inv-loop μ-loop
+in-loop-for-renew c = c .before .before .before .before .before .before .before
+
+abbrev after-set-right : tie.After-slice-known17 Inv-loop μ-loop → tie.After-set-right Inv-loop μ-loop
+after-set-right c = c .before .before .before .before .before .before .before .before
+
+abbrev after-loop : tie.After-slice-known17 Inv-loop μ-loop → tie.After-loop Inv-loop μ-loop
+after-loop c = after-loop-for-set-right (after-set-right c .before)
+
+abbrev at-start : tie.After-slice-known17 Inv-loop μ-loop → tie.Start Inv-loop μ-loop
+at-start c = at-start-from-loop (after-loop c .before)
+
+abbrev after-renew : tie.After-slice-known13 Inv-loop μ-loop → tie.After-renew Inv-loop μ-loop
+after-renew c = c .before .before .before .before .before .before .before .before .before .before .before .before
+
+abbrev in-loop-for-loop-again : tie.After-slice-known13 Inv-loop μ-loop → tie.In-loop Inv-loop μ-loop
+in-loop-for-loop-again c = in-loop-for-renew (after-renew c .before)
+
 mul-g : tie.Need-mul-g Inv-loop μ-loop
-mul-g c = let p = c .before .before .before .before .before .before .before .before .pre in omega (arith, p .1 .1 .1 .0, area (p .0 .obeys .size))
+mul-g c = let p = at-start-for-mul-g c .pre in omega (arith, p .1 .1 .1 .0, area (p .0 .obeys .size))
 
 slice-write-g : tie.Need-slice-write-g Inv-loop μ-loop
-slice-write-g c = let p = c .before .before .before .before .before .before .before .before .pre in omega (arith, p .1 .1 .1 .0, p .1 .0 .sized .g)
+slice-write-g c = let p = at-start-for-mul-g c .pre in omega (arith, p .1 .1 .1 .0, p .1 .0 .sized .g)
 
 loop-holds : tie.Need-loop-holds Inv-loop μ-loop
 loop-holds c =
-    let p = c .before .before .before .before .before .before .before .before .pre in
+    let p = at-start-for-mul-g c .pre in
     (omega arith, renewed-first _ _ _, held-g _ _ (p .1 .0), rhs-small (p .1 .0) (p .1 .1 .0 .1))
 
 renew-requires : tie.Need-renew-requires Inv-loop μ-loop
 renew-requires c κs =
-    let p = c .before .before .before .before .before .before .before .before .before .before .before .before .before .before .before .before .before .pre in
-    let i = c .before .before .before .before .before .before .before .before .loop .inv in
-    (p .0, (i .2, ((small-g _ _ (p .1 .0) (p .1 .1 .1 .0) (inl refl) (p .1 .1 .0 .0), i .3), (p .1 .1 .1 .0, p .1 .1 .1 .1, c .before .before .before .before .before .before .before .loop-test .taken))))
+    let p = at-start-from-loop (in-loop-for-renew c .before) .pre in
+    let i = in-loop-for-renew c .before .loop .inv in (
+      p .0,
+      (
+        i .2,
+        (
+          (small-g _ _ (p .1 .0) (p .1 .1 .1 .0) (inl refl) (p .1 .1 .0 .0), i .3),
+          (p .1 .1 .1 .0, p .1 .1 .1 .1, in-loop-for-renew c .loop-test .taken),
+        ),
+      ),
+    )
 
 add-d : tie.Need-add-d Inv-loop μ-loop
-add-d c = omega (arith, c .before .before .before .before .before .before .before .before .before .before .before .before .before .before .before .before .before .before .before .before .loop-test .taken)
+add-d c = omega (arith, in-loop-for-loop-again c .loop-test .taken)
 
 loop-less : tie.Need-loop-less Inv-loop μ-loop
-loop-less c = omega (arith, c .before .before .before .before .before .before .before .before .before .before .before .before .before .before .before .before .before .before .before .before .loop-test .taken)
+loop-less c = omega (arith, in-loop-for-loop-again c .loop-test .taken)
 
 loop-again : tie.Need-loop-again Inv-loop μ-loop
 loop-again c =
-    let i = c .before .before .before .before .before .before .before .before .before .before .before .before .before .before .before .before .before .before .before .before .before .loop .inv in
-    let e = c .before .before .before .before .before .before .before .before .before .before .before .before .renew .ensures in
-    (omega (arith, c .before .before .before .before .before .before .before .before .before .before .before .before .before .before .before .before .before .before .before .before .loop-test .taken), renewed-more _ _ _ _ (i .1) (e .0 .is), became-held (renewedAll-sized (i .2 .sized) _ _) (e .0), e .1 .0)
+    let i = in-loop-for-loop-again c .before .loop .inv in
+    let e = after-renew c .renew .ensures in (
+      omega (arith, in-loop-for-loop-again c .loop-test .taken),
+      renewed-more _ _ _ _ (i .1) (e .0 .is),
+      became-held (renewedAll-sized (i .2 .sized) _ _) (e .0),
+      e .1 .0,
+    )
 
 set-right-requires : tie.Need-set-right-requires Inv-loop μ-loop
 set-right-requires c κs =
-    let p = c .before .before .before .before .before .before .before .before .before .before .before .before .before .before .before .before .pre in
-    let i = c .before .before .before .before .before .before .before .loop .inv in
+    let p = at-start-from-loop (at-loop c) .pre in
+    let i = at-loop c .loop .inv in
     entering (p .0) (i .2) (small-g _ _ (p .1 .0) (p .1 .1 .1 .0) (inl refl) (p .1 .1 .0 .0)) (i .3) (p .1 .1 .1 .0) (p .1 .1 .1 .1)
 
 same-length : tie.Need-same-length Inv-loop μ-loop
 same-length c = search needs
 
 same-length-2 : tie.Need-same-length-2 Inv-loop μ-loop
-same-length-2 c = c .before .before .before .before .before .before .before .before .before .before .before .before .before .before .before .before .loop .inv .2 .sized .rhs ∙ sym (c .before .before .before .before .before .before .before .before .before .before .before .before .before .before .before .before .before .before .before .before .before .before .before .before .before .pre .1 .0 .sized .rhs)
+same-length-2 c = after-loop c .before .loop .inv .2 .sized .rhs ∙ sym (at-start c .pre .1 .0 .sized .rhs)
 
 same-length-3 : tie.Need-same-length-3 Inv-loop μ-loop
-same-length-3 c = c .before .before .before .before .before .before .before .before .before .before .before .before .before .before .before .before .loop .inv .2 .sized .parent ∙ sym (c .before .before .before .before .before .before .before .before .before .before .before .before .before .before .before .before .before .before .before .before .before .before .before .before .before .pre .1 .0 .sized .parent)
+same-length-3 c = after-loop c .before .loop .inv .2 .sized .parent ∙ sym (at-start c .pre .1 .0 .sized .parent)
 
 same-length-4 : tie.Need-same-length-4 Inv-loop μ-loop
-same-length-4 c = let e = c .before .before .before .before .before .before .before .before .set-right .ensures .0 (c .before .before .before .before .before .before .before .before .before .before .before .before .before .before .before .before .before .before .before .before .before .before .before .before .before .args .plan .now) (c .before .before .before .before .before .before .before .before .before .before .before .before .before .before .before .before .loop .parent) in e .heap .tables .length1 ∙ sym (c .before .before .before .before .before .before .before .before .before .before .before .before .before .before .before .before .before .before .before .before .before .before .before .before .before .pre .1 .0 .sized .k1)
+same-length-4 c =
+    let e = after-set-right c .set-right .ensures .0 (at-start c .args .plan .now) (after-loop c .before .loop .parent) in
+    e .heap .tables .length1 ∙ sym (at-start c .pre .1 .0 .sized .k1)
 
 same-length-5 : tie.Need-same-length-5 Inv-loop μ-loop
-same-length-5 c = let e = c .before .before .before .before .before .before .before .before .set-right .ensures .0 (c .before .before .before .before .before .before .before .before .before .before .before .before .before .before .before .before .before .before .before .before .before .before .before .before .before .args .plan .now) (c .before .before .before .before .before .before .before .before .before .before .before .before .before .before .before .before .loop .parent) in e .heap .tables .length2 ∙ sym (c .before .before .before .before .before .before .before .before .before .before .before .before .before .before .before .before .before .before .before .before .before .before .before .before .before .pre .1 .0 .sized .k2)
+same-length-5 c =
+    let e = after-set-right c .set-right .ensures .0 (at-start c .args .plan .now) (after-loop c .before .loop .parent) in
+    e .heap .tables .length2 ∙ sym (at-start c .pre .1 .0 .sized .k2)
 
 same-length-6 : tie.Need-same-length-6 Inv-loop μ-loop
-same-length-6 c = let e = c .before .before .before .before .before .before .before .before .set-right .ensures .0 (c .before .before .before .before .before .before .before .before .before .before .before .before .before .before .before .before .before .before .before .before .before .before .before .before .before .args .plan .now) (c .before .before .before .before .before .before .before .before .before .before .before .before .before .before .before .before .loop .parent) in e .heap .tables .agree .lengthPlace ∙ sym (c .before .before .before .before .before .before .before .before .before .before .before .before .before .before .before .before .before .before .before .before .before .before .before .before .before .pre .1 .0 .heap .tables .agree .lengthPlace)
+same-length-6 c =
+    let e = after-set-right c .set-right .ensures .0 (at-start c .args .plan .now) (after-loop c .before .loop .parent) in
+    e .heap .tables .agree .lengthPlace ∙ sym (at-start c .pre .1 .0 .heap .tables .agree .lengthPlace)
 
 same-length-7 : tie.Need-same-length-7 Inv-loop μ-loop
-same-length-7 c = let e = c .before .before .before .before .before .before .before .before .set-right .ensures .0 (c .before .before .before .before .before .before .before .before .before .before .before .before .before .before .before .before .before .before .before .before .before .before .before .before .before .args .plan .now) (c .before .before .before .before .before .before .before .before .before .before .before .before .before .before .before .before .loop .parent) in e .heap .tables .agree .lengthList ∙ sym (c .before .before .before .before .before .before .before .before .before .before .before .before .before .before .before .before .before .before .before .before .before .before .before .before .before .pre .1 .0 .heap .tables .agree .lengthList)
+same-length-7 c =
+    let e = after-set-right c .set-right .ensures .0 (at-start c .args .plan .now) (after-loop c .before .loop .parent) in
+    e .heap .tables .agree .lengthList ∙ sym (at-start c .pre .1 .0 .heap .tables .agree .lengthList)
 
 returns : tie.Need-returns Inv-loop μ-loop
 returns c =
-    let i = c .before .before .before .before .before .before .before .before .before .before .before .before .before .before .before .before .loop .inv in
-    raise-is _ _ _ _ _ _ _ _ _ (c .before .before .before .before .before .before .before .before .before .before .before .before .before .before .before .before .before .before .before .before .before .before .before .before .before .args .list .now) (omega (arith, i .0, c .before .before .before .before .before .before .before .before .before .before .before .before .before .before .before .loop-test .left)) (i .1) (c .before .before .before .before .before .before .before .before .set-right .ensures .0 _ _)
+    let i = after-loop c .before .loop .inv in
+    raise-is _ _ _ _ _ _ _ _ _
+    (at-start c .args .list .now)
+    (omega (arith, i .0, after-loop c .loop-test .left))
+    (i .1)
+    (after-set-right c .set-right .ensures .0 _ _)
 
 pub raise-spec : {M : Type 1} → statement M
 raise-spec =

@@ -7,6 +7,22 @@ use borrow.Author.Needs.{needs}
 use Rattle.steps.proofs.relax.Statement.{statement}
 use Rattle.steps.proofs.relax.Tie as tie
 
+-- The places that the answers look back to.
+abbrev at-start-from-relaxation : tie.After-relaxation → tie.Start
+at-start-from-relaxation c = c .before .before .before .before .before .before .before .before .before .before
+
+abbrev at-start : tie.After-moved → tie.Start
+at-start c = at-start-from-relaxation (c .before .before .before .before)
+
+abbrev after-moved : tie.After-set-right-arg5 → tie.After-moved
+after-moved c = c .before .before .before .before .before
+
+abbrev after-set-right : tie.After-slice-known10 → tie.After-set-right
+after-set-right c = c .before .before .before .before .before .before .before .before
+
+abbrev after-asked : tie.After-slice-known10 → tie.After-asked
+after-asked c = after-moved (after-set-right c .before) .before .before
+
 relaxation-requires : tie.Need-relaxation-requires
 relaxation-requires c κs = search needs
 
@@ -21,24 +37,34 @@ same-length c = search needs
 
 returns : tie.Need-returns
 returns c =
-    let p = c .before .before .before .before .before .before .before .before .before .before .before .before .pre in
-    (became-same (p .1 .0) (asked-nothing _ _ _ _ _ _ (c .enum-told .given .1) (c .before .before .relaxation .ensures) _ refl), (p .1 .1 .0 .1, λ _ _ _. (refl, refl, refl)))
+    let p = at-start-from-relaxation (c .before .before) .pre in (
+      became-same (p .1 .0) (asked-nothing _ _ _ _ _ _ (c .enum-told .given .1) (c .before .before .relaxation .ensures) _ refl),
+      (p .1 .1 .0 .1, λ _ _ _. (refl, refl, refl)),
+    )
 
 moved-requires : tie.Need-moved-requires
 moved-requires c κs =
-    let p = c .before .before .before .before .before .before .before .before .before .before .before .before .before .pre in
+    let p = at-start-from-relaxation (c .before .before .before) .pre in
     let r = asked-to _ _ _ _ _ _ (c .before .asked .given .1) (c .before .before .before .relaxation .ensures) in
     move-asks (p .0) (r .enters) (p .1 .1 .1 .1) (p .1 .1 .1 .2)
 
 mul-rhs : tie.Need-mul-rhs
 mul-rhs c =
-    let p = c .before .before .before .before .before .before .before .before .before .before .before .before .before .before .pre in
-    omega (arith, asked-to _ _ _ _ _ _ (c .before .before .asked .given .1) (c .before .before .before .before .relaxation .ensures) .enters .inside, area (p .0 .obeys .size))
+    let p = at-start c .pre in
+    omega (
+      arith,
+      asked-to _ _ _ _ _ _ (c .before .before .asked .given .1) (c .before .before .before .before .relaxation .ensures) .enters .inside,
+      area (p .0 .obeys .size),
+    )
 
 slice-write-rhs : tie.Need-slice-write-rhs
 slice-write-rhs c =
-    let p = c .before .before .before .before .before .before .before .before .before .before .before .before .before .before .pre in
-    omega (arith, asked-to _ _ _ _ _ _ (c .before .before .asked .given .1) (c .before .before .before .before .relaxation .ensures) .enters .inside, p .1 .0 .sized .rhs)
+    let p = at-start c .pre in
+    omega (
+      arith,
+      asked-to _ _ _ _ _ _ (c .before .before .asked .given .1) (c .before .before .before .before .relaxation .ensures) .enters .inside,
+      p .1 .0 .sized .rhs,
+    )
 
 add-parent : tie.Need-add-parent
 add-parent c = search needs
@@ -51,14 +77,26 @@ cast-parent c = search needs
 
 slice-write-parent : tie.Need-slice-write-parent
 slice-write-parent c =
-    let p = c .before .before .before .before .before .before .before .before .before .before .before .before .before .before .pre in
-    omega (arith, asked-to _ _ _ _ _ _ (c .before .before .asked .given .1) (c .before .before .before .before .relaxation .ensures) .enters .inside, p .1 .0 .sized .parent)
+    let p = at-start c .pre in
+    omega (
+      arith,
+      asked-to _ _ _ _ _ _ (c .before .before .asked .given .1) (c .before .before .before .before .relaxation .ensures) .enters .inside,
+      p .1 .0 .sized .parent,
+    )
 
 set-right-requires : tie.Need-set-right-requires
 set-right-requires c κs =
-    let p = c .before .before .before .before .before .before .before .before .before .before .before .before .before .before .before .before .before .before .before .pre in
-    let r = asked-to _ _ _ _ _ _ (c .before .before .before .before .before .before .before .asked .given .1) (c .before .before .before .before .before .before .before .before .before .relaxation .ensures) in
-    entering (p .0) (held-rhs _ _ 0 (p .1 .0)) (p .1 .1 .0 .0) (small-rhs _ _ (p .1 .0) (r .enters .inside) (sum-small (r .sum-le) (p .1 .1 .1 .3)) (p .1 .1 .0 .1)) (r .enters .inside) (entered-at (p .0) (r .enters) (p .1 .1 .1 .1) (c .before .before .before .before .before .moved .ensures))
+    let p = at-start (after-moved c) .pre in
+    let r = asked-to _ _ _ _ _ _
+    (after-moved c .before .before .asked .given .1)
+    (after-moved c .before .before .before .before .relaxation .ensures) in
+    entering
+    (p .0)
+    (held-rhs _ _ 0 (p .1 .0))
+    (p .1 .1 .0 .0)
+    (small-rhs _ _ (p .1 .0) (r .enters .inside) (sum-small (r .sum-le) (p .1 .1 .1 .3)) (p .1 .1 .0 .1))
+    (r .enters .inside)
+    (entered-at (p .0) (r .enters) (p .1 .1 .1 .1) (after-moved c .moved .ensures))
 
 same-length-2 : tie.Need-same-length-2
 same-length-2 c = search needs
@@ -80,10 +118,12 @@ same-length-7 c = search needs
 
 returns-2 : tie.Need-returns-2
 returns-2 c =
-    let p = c .before .before .before .before .before .before .before .before .before .before .before .before .before .before .before .before .before .before .before .before .before .before .before .before .before .before .before .before .pre in
-    let r = asked-to _ _ _ _ _ _ (c .before .before .before .before .before .before .before .before .before .before .before .before .before .before .before .before .asked .given .1) (c .before .before .before .before .before .before .before .before .before .before .before .before .before .before .before .before .before .before .relaxation .ensures) in
-    let e = c .before .before .before .before .before .before .before .before .set-right .ensures in
-    (became-as (e .0 _ _) (sym (r .is _ refl)), (small-rhs _ _ (p .1 .0) (r .enters .inside) (sum-small (r .sum-le) (p .1 .1 .1 .3)) (p .1 .1 .0 .1), e .1))
+    let p = at-start-from-relaxation (after-asked c .before .before) .pre in
+    let r = asked-to _ _ _ _ _ _ (after-asked c .asked .given .1) (after-asked c .before .before .relaxation .ensures) in
+    let e = after-set-right c .set-right .ensures in (
+      became-as (e .0 _ _) (sym (r .is _ refl)),
+      (small-rhs _ _ (p .1 .0) (r .enters .inside) (sum-small (r .sum-le) (p .1 .1 .1 .3)) (p .1 .1 .0 .1), e .1),
+    )
 
 pub relax-spec : {M : Type 1} → statement M
 relax-spec =

@@ -4,6 +4,19 @@ use borrow.Author.Needs.{needs}
 use Rattle.steps.proofs.renew.Statement.{statement}
 use Rattle.steps.proofs.renew.Tie as tie
 
+-- The places that the answers look back to.
+abbrev at-start : tie.After-child-by → tie.Start
+at-start c = c .before .before .before .before .before .before .before .before .before .before
+
+abbrev after-moved : tie.After-found-anew-arg6 → tie.After-moved
+after-moved c = c .before .before .before .before .before .before
+
+abbrev after-found-anew : tie.After-slice-known12 → tie.After-found-anew
+after-found-anew c = c .before .before .before .before .before .before .before .before .before .before .before .before
+
+abbrev after-asked : tie.After-slice-known12 → tie.After-asked
+after-asked c = after-moved (after-found-anew c .before) .before .before
+
 child-by-requires : tie.Need-child-by-requires
 child-by-requires c κs = search needs
 
@@ -18,20 +31,22 @@ same-length c = search needs
 
 returns : tie.Need-returns
 returns c =
-    let p = c .before .before .before .before .before .before .before .before .before .before .before .before .pre in
-    (became-same (p .1 .0) (asked-not _ _ _ _ _ (c .enum-told .given .1) (c .before .before .child-by .ensures) _ refl), (p .1 .1 .0 .1, λ _ _ _. (refl, refl, refl)))
+    let p = at-start (c .before .before) .pre in (
+      became-same (p .1 .0) (asked-not _ _ _ _ _ (c .enum-told .given .1) (c .before .before .child-by .ensures) _ refl),
+      (p .1 .1 .0 .1, λ _ _ _. (refl, refl, refl)),
+    )
 
 moved-requires : tie.Need-moved-requires
 moved-requires c κs =
-    let p = c .before .before .before .before .before .before .before .before .before .before .before .before .before .pre in
+    let p = at-start (c .before .before .before) .pre in
     let r = asked-is _ _ _ _ _ (c .before .asked .given .1) (c .before .before .before .child-by .ensures) in
     move-asks (p .0) (r .enters) (p .1 .1 .1 .1) (p .1 .1 .1 .2)
 
 found-anew-requires : tie.Need-found-anew-requires
 found-anew-requires c κs =
-    let p = c .before .before .before .before .before .before .before .before .before .before .before .before .before .before .before .before .before .before .before .before .pre in
-    let r = asked-is _ _ _ _ _ (c .before .before .before .before .before .before .before .before .asked .given .1) (c .before .before .before .before .before .before .before .before .before .before .child-by .ensures) in
-    (p .0, (p .1 .0, (p .1 .1 .0, (r .enters .inside, entered-at (p .0) (r .enters) (p .1 .1 .1 .1) (c .before .before .before .before .before .before .moved .ensures)))))
+    let p = at-start (after-moved c .before .before .before .before) .pre in
+    let r = asked-is _ _ _ _ _ (after-moved c .before .before .asked .given .1) (after-moved c .before .before .before .before .child-by .ensures) in
+    (p .0, (p .1 .0, (p .1 .1 .0, (r .enters .inside, entered-at (p .0) (r .enters) (p .1 .1 .1 .1) (after-moved c .moved .ensures)))))
 
 same-length-2 : tie.Need-same-length-2
 same-length-2 c = search needs
@@ -53,8 +68,8 @@ same-length-7 c = search needs
 
 returns-2 : tie.Need-returns-2
 returns-2 c =
-    let r = asked-is _ _ _ _ _ (c .before .before .before .before .before .before .before .before .before .before .before .before .before .before .before .before .before .before .before .before .before .asked .given .1) (c .before .before .before .before .before .before .before .before .before .before .before .before .before .before .before .before .before .before .before .before .before .before .before .child-by .ensures) in
-    let e = c .before .before .before .before .before .before .before .before .before .before .before .before .found-anew .ensures in
+    let r = asked-is _ _ _ _ _ (after-asked c .asked .given .1) (after-asked c .before .before .child-by .ensures) in
+    let e = after-found-anew c .found-anew .ensures in
     (became-as (e .0) (sym (r .is _ refl)), e .1)
 
 pub renew-spec : {M : Type 1} → statement M

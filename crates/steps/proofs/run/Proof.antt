@@ -10,22 +10,72 @@ use Rattle.steps.proofs.run.Statement.{statement}
 use Rattle.steps.proofs.run.Tie as tie
 
 abbrev Inv-loop : tie.InvT-loop
-Inv-loop a plan g₀ rhs₀ parent₀ k1₀ k2₀ place₀ list₀ count limit n₀ steps₀ g rhs parent k1 k2 place list n steps = Going a plan count n (tables plan g₀ rhs₀ parent₀ k1₀ k2₀ place₀ list₀) (tables plan g rhs parent k1 k2 place list) limit steps
+Inv-loop a plan g₀ rhs₀ parent₀ k1₀ k2₀ place₀ list₀ count limit n₀ steps₀ g rhs parent k1 k2 place list n steps =
+    Going a plan count n (tables plan g₀ rhs₀ parent₀ k1₀ k2₀ place₀ list₀) (tables plan g rhs parent k1 k2 place list) limit steps
 
 abbrev μ-loop : tie.MeasureT-loop
 μ-loop a plan g₀ rhs₀ parent₀ k1₀ k2₀ place₀ list₀ count limit n₀ steps₀ g rhs parent k1 k2 place list n steps = limit - steps
 
+-- The places that the answers look back to.
+abbrev at-start-for-mul-limit : tie.After-struct-known Inv-loop μ-loop → tie.Start Inv-loop μ-loop
+at-start-for-mul-limit c = c .before .before .before .before .before .before .before .before .before
+
+abbrev at-start-from-loop : tie.At-loop Inv-loop μ-loop → tie.Start Inv-loop μ-loop
+at-start-from-loop c = at-start-for-mul-limit (c .before)
+
+abbrev after-loop-for-chosen-2 : tie.After-chosen-arg12 Inv-loop μ-loop → tie.After-loop Inv-loop μ-loop
+after-loop-for-chosen-2 c = c .before .before .before .before .before .before
+
+abbrev in-loop-for-chosen : tie.After-chosen-arg6 Inv-loop μ-loop → tie.In-loop Inv-loop μ-loop
+in-loop-for-chosen c = c .before .before .before .before .before .before
+
+abbrev after-loop-from-chosen2 : tie.After-chosen2 Inv-loop μ-loop → tie.After-loop Inv-loop μ-loop
+after-loop-from-chosen2 c = after-loop-for-chosen-2 (c .before)
+
+abbrev at-loop : tie.After-enum-told Inv-loop μ-loop → tie.At-loop Inv-loop μ-loop
+at-loop c = in-loop-for-chosen (c .before .before .before) .before
+
+abbrev at-loop-for-returns-3 : tie.After-enum-told2 Inv-loop μ-loop → tie.At-loop Inv-loop μ-loop
+at-loop-for-returns-3 c = after-loop-from-chosen2 (c .before .before) .before
+
+abbrev at-loop-for-returns-2 : tie.After-enum-told3 Inv-loop μ-loop → tie.At-loop Inv-loop μ-loop
+at-loop-for-returns-2 c = after-loop-from-chosen2 (c .before .before) .before
+
+abbrev at-start : tie.After-enum-told Inv-loop μ-loop → tie.Start Inv-loop μ-loop
+at-start c = at-start-from-loop (at-loop c)
+
+abbrev at-start-for-returns-3 : tie.After-enum-told2 Inv-loop μ-loop → tie.Start Inv-loop μ-loop
+at-start-for-returns-3 c = at-start-from-loop (at-loop-for-returns-3 c)
+
+abbrev at-start-for-returns-2 : tie.After-enum-told3 Inv-loop μ-loop → tie.Start Inv-loop μ-loop
+at-start-for-returns-2 c = at-start-from-loop (at-loop-for-returns-2 c)
+
+abbrev after-next-for-step : tie.After-step-arg7 Inv-loop μ-loop → tie.After-next Inv-loop μ-loop
+after-next-for-step c = c .before .before .before .before .before .before .before .before
+
+abbrev at-loop-for-step : tie.After-step-arg7 Inv-loop μ-loop → tie.At-loop Inv-loop μ-loop
+at-loop-for-step c = in-loop-for-chosen (after-next-for-step c .before .before .before) .before
+
+abbrev after-step : tie.After-slice-known14 Inv-loop μ-loop → tie.After-step Inv-loop μ-loop
+after-step c = c .before .before .before .before .before .before .before .before .before .before .before .before .before .before
+
+abbrev after-next-for-loop-again : tie.After-slice-known14 Inv-loop μ-loop → tie.After-next Inv-loop μ-loop
+after-next-for-loop-again c = after-next-for-step (after-step c .before)
+
+abbrev in-loop-for-loop-again : tie.After-slice-known14 Inv-loop μ-loop → tie.In-loop Inv-loop μ-loop
+in-loop-for-loop-again c = in-loop-for-chosen (after-next-for-loop-again c .before .before .before)
+
 mul-limit : tie.Need-mul-limit Inv-loop μ-loop
-mul-limit c = omega (arith, area (c .before .before .before .before .before .before .before .before .before .pre .0 .obeys .size))
+mul-limit c = omega (arith, area (at-start-for-mul-limit c .pre .0 .obeys .size))
 
 mul-limit-2 : tie.Need-mul-limit-2 Inv-loop μ-loop
-mul-limit-2 c = omega (arith, area (c .before .before .before .before .before .before .before .before .before .pre .0 .obeys .size))
+mul-limit-2 c = omega (arith, area (at-start-for-mul-limit c .pre .0 .obeys .size))
 
 loop-holds : tie.Need-loop-holds Inv-loop μ-loop
-loop-holds c = going-first _ (c .before .before .before .before .before .before .before .before .before .pre .1)
+loop-holds c = going-first _ (at-start-for-mul-limit c .pre .1)
 
 chosen-requires : tie.Need-chosen-requires Inv-loop μ-loop
-chosen-requires c κs = choosing (c .before .before .before .before .before .before .before .before .before .before .before .before .before .before .before .before .before .pre .0) (c .before .before .before .before .before .before .before .loop .inv)
+chosen-requires c κs = choosing (at-start-from-loop (in-loop-for-chosen c .before) .pre .0) (in-loop-for-chosen c .before .loop .inv)
 
 enum-known-next : tie.Need-enum-known-next Inv-loop μ-loop
 enum-known-next c = search needs
@@ -34,46 +84,59 @@ enum-told : tie.Need-enum-told Inv-loop μ-loop
 enum-told c = search needs
 
 same-length : tie.Need-same-length Inv-loop μ-loop
-same-length c = c .before .before .before .before .before .before .before .before .before .before .loop .inv .held .sized .g ∙ sym (c .before .before .before .before .before .before .before .before .before .before .before .before .before .before .before .before .before .before .before .before .pre .1 .held .sized .g)
+same-length c = at-loop c .loop .inv .held .sized .g ∙ sym (at-start c .pre .1 .held .sized .g)
 
 same-length-2 : tie.Need-same-length-2 Inv-loop μ-loop
-same-length-2 c = c .before .before .before .before .before .before .before .before .before .before .loop .inv .held .sized .rhs ∙ sym (c .before .before .before .before .before .before .before .before .before .before .before .before .before .before .before .before .before .before .before .before .pre .1 .held .sized .rhs)
+same-length-2 c = at-loop c .loop .inv .held .sized .rhs ∙ sym (at-start c .pre .1 .held .sized .rhs)
 
 same-length-3 : tie.Need-same-length-3 Inv-loop μ-loop
-same-length-3 c = c .before .before .before .before .before .before .before .before .before .before .loop .inv .held .sized .parent ∙ sym (c .before .before .before .before .before .before .before .before .before .before .before .before .before .before .before .before .before .before .before .before .pre .1 .held .sized .parent)
+same-length-3 c = at-loop c .loop .inv .held .sized .parent ∙ sym (at-start c .pre .1 .held .sized .parent)
 
 same-length-4 : tie.Need-same-length-4 Inv-loop μ-loop
-same-length-4 c = c .before .before .before .before .before .before .before .before .before .before .loop .inv .held .sized .k1 ∙ sym (c .before .before .before .before .before .before .before .before .before .before .before .before .before .before .before .before .before .before .before .before .pre .1 .held .sized .k1)
+same-length-4 c = at-loop c .loop .inv .held .sized .k1 ∙ sym (at-start c .pre .1 .held .sized .k1)
 
 same-length-5 : tie.Need-same-length-5 Inv-loop μ-loop
-same-length-5 c = c .before .before .before .before .before .before .before .before .before .before .loop .inv .held .sized .k2 ∙ sym (c .before .before .before .before .before .before .before .before .before .before .before .before .before .before .before .before .before .before .before .before .pre .1 .held .sized .k2)
+same-length-5 c = at-loop c .loop .inv .held .sized .k2 ∙ sym (at-start c .pre .1 .held .sized .k2)
 
 same-length-6 : tie.Need-same-length-6 Inv-loop μ-loop
-same-length-6 c = c .before .before .before .before .before .before .before .before .before .before .loop .inv .held .heap .tables .agree .lengthPlace ∙ sym (c .before .before .before .before .before .before .before .before .before .before .before .before .before .before .before .before .before .before .before .before .pre .1 .held .heap .tables .agree .lengthPlace)
+same-length-6 c = at-loop c .loop .inv .held .heap .tables .agree .lengthPlace ∙ sym (at-start c .pre .1 .held .heap .tables .agree .lengthPlace)
 
 same-length-7 : tie.Need-same-length-7 Inv-loop μ-loop
-same-length-7 c = c .before .before .before .before .before .before .before .before .before .before .loop .inv .held .heap .tables .agree .lengthList ∙ sym (c .before .before .before .before .before .before .before .before .before .before .before .before .before .before .before .before .before .before .before .before .pre .1 .held .heap .tables .agree .lengthList)
+same-length-7 c = at-loop c .loop .inv .held .heap .tables .agree .lengthList ∙ sym (at-start c .pre .1 .held .heap .tables .agree .lengthList)
 
 returns : tie.Need-returns Inv-loop μ-loop
-returns c = finished-done (c .before .before .before .before .before .before .before .before .before .before .loop .inv) (c .enum-told .given .1) (c .before .before .chosen .ensures)
+returns c = finished-done (at-loop c .loop .inv) (c .enum-told .given .1) (c .before .before .chosen .ensures)
 
 step-requires : tie.Need-step-requires Inv-loop μ-loop
 step-requires c κs =
-    let A = c .before .before .before .before .before .before .before .before .before .before .before .before .before .before .before .before .before .before .before .before .before .before .before .before .before .before .before .before .pre .0 in
-    let G = c .before .before .before .before .before .before .before .before .before .before .before .before .before .before .before .before .before .before .loop .inv in
-    (A, (G .held, ((g-small A G, rhs-small A G), taken-in A G (c .before .before .before .before .before .before .before .before .next .given .1) (c .before .before .before .before .before .before .before .before .before .before .chosen .ensures))))
+    let A = at-start-from-loop (at-loop-for-step c) .pre .0 in
+    let G = at-loop-for-step c .loop .inv in (
+      A,
+      (
+        G .held,
+        ((g-small A G, rhs-small A G), taken-in A G (after-next-for-step c .next .given .1) (after-next-for-step c .before .before .chosen .ensures)),
+      ),
+    )
 
 add-steps : tie.Need-add-steps Inv-loop μ-loop
-add-steps c = omega (arith, c .before .before .before .before .before .before .before .before .before .before .before .before .before .before .before .before .before .before .before .before .before .before .before .before .before .before .before .before .before .before .before .before .loop-test .taken, area (c .before .before .before .before .before .before .before .before .before .before .before .before .before .before .before .before .before .before .before .before .before .before .before .before .before .before .before .before .before .before .before .before .before .before .before .before .before .before .before .before .before .before .before .pre .0 .obeys .size))
+add-steps c =
+    omega (arith, in-loop-for-loop-again c .loop-test .taken, area (at-start-from-loop (in-loop-for-loop-again c .before) .pre .0 .obeys .size))
 
 loop-less : tie.Need-loop-less Inv-loop μ-loop
-loop-less c = omega (arith, c .before .before .before .before .before .before .before .before .before .before .before .before .before .before .before .before .before .before .before .before .before .before .before .before .before .before .before .before .before .before .before .before .loop-test .taken)
+loop-less c = omega (arith, in-loop-for-loop-again c .loop-test .taken)
 
 loop-again : tie.Need-loop-again Inv-loop μ-loop
-loop-again c = going-more (c .before .before .before .before .before .before .before .before .before .before .before .before .before .before .before .before .before .before .before .before .before .before .before .before .before .before .before .before .before .before .before .before .before .before .before .before .before .before .before .before .before .before .before .pre .0) (c .before .before .before .before .before .before .before .before .before .before .before .before .before .before .before .before .before .before .before .before .before .before .before .before .before .before .before .before .before .before .before .before .before .loop .inv) (c .before .before .before .before .before .before .before .before .before .before .before .before .before .before .before .before .before .before .before .before .before .before .before .next .given .1) (c .before .before .before .before .before .before .before .before .before .before .before .before .before .before .before .before .before .before .before .before .before .before .before .before .before .chosen .ensures) (c .before .before .before .before .before .before .before .before .before .before .before .before .before .before .before .before .before .before .before .before .before .before .before .before .before .before .before .before .before .before .before .before .loop-test .taken) (c .before .before .before .before .before .before .before .before .before .before .before .before .before .before .step .ensures)
+loop-again c =
+    going-more
+    (at-start-from-loop (in-loop-for-loop-again c .before) .pre .0)
+    (in-loop-for-loop-again c .before .loop .inv)
+    (after-next-for-loop-again c .next .given .1)
+    (after-next-for-loop-again c .before .before .chosen .ensures)
+    (in-loop-for-loop-again c .loop-test .taken)
+    (after-step c .step .ensures)
 
 chosen-requires-2 : tie.Need-chosen-requires-2 Inv-loop μ-loop
-chosen-requires-2 c κs = choosing (c .before .before .before .before .before .before .before .before .before .before .before .before .before .before .before .before .before .pre .0) (c .before .before .before .before .before .before .before .loop .inv)
+chosen-requires-2 c κs = choosing (at-start-from-loop (after-loop-for-chosen-2 c .before) .pre .0) (after-loop-for-chosen-2 c .before .loop .inv)
 
 enum-told-2 : tie.Need-enum-told-2 Inv-loop μ-loop
 enum-told-2 c = search needs
@@ -82,52 +145,65 @@ enum-told-3 : tie.Need-enum-told-3 Inv-loop μ-loop
 enum-told-3 c = search needs
 
 same-length-8 : tie.Need-same-length-8 Inv-loop μ-loop
-same-length-8 c = c .before .before .before .before .before .before .before .before .before .before .loop .inv .held .sized .g ∙ sym (c .before .before .before .before .before .before .before .before .before .before .before .before .before .before .before .before .before .before .before .before .pre .1 .held .sized .g)
+same-length-8 c = at-loop-for-returns-2 c .loop .inv .held .sized .g ∙ sym (at-start-for-returns-2 c .pre .1 .held .sized .g)
 
 same-length-9 : tie.Need-same-length-9 Inv-loop μ-loop
-same-length-9 c = c .before .before .before .before .before .before .before .before .before .before .loop .inv .held .sized .rhs ∙ sym (c .before .before .before .before .before .before .before .before .before .before .before .before .before .before .before .before .before .before .before .before .pre .1 .held .sized .rhs)
+same-length-9 c = at-loop-for-returns-2 c .loop .inv .held .sized .rhs ∙ sym (at-start-for-returns-2 c .pre .1 .held .sized .rhs)
 
 same-length-10 : tie.Need-same-length-10 Inv-loop μ-loop
-same-length-10 c = c .before .before .before .before .before .before .before .before .before .before .loop .inv .held .sized .parent ∙ sym (c .before .before .before .before .before .before .before .before .before .before .before .before .before .before .before .before .before .before .before .before .pre .1 .held .sized .parent)
+same-length-10 c = at-loop-for-returns-2 c .loop .inv .held .sized .parent ∙ sym (at-start-for-returns-2 c .pre .1 .held .sized .parent)
 
 same-length-11 : tie.Need-same-length-11 Inv-loop μ-loop
-same-length-11 c = c .before .before .before .before .before .before .before .before .before .before .loop .inv .held .sized .k1 ∙ sym (c .before .before .before .before .before .before .before .before .before .before .before .before .before .before .before .before .before .before .before .before .pre .1 .held .sized .k1)
+same-length-11 c = at-loop-for-returns-2 c .loop .inv .held .sized .k1 ∙ sym (at-start-for-returns-2 c .pre .1 .held .sized .k1)
 
 same-length-12 : tie.Need-same-length-12 Inv-loop μ-loop
-same-length-12 c = c .before .before .before .before .before .before .before .before .before .before .loop .inv .held .sized .k2 ∙ sym (c .before .before .before .before .before .before .before .before .before .before .before .before .before .before .before .before .before .before .before .before .pre .1 .held .sized .k2)
+same-length-12 c = at-loop-for-returns-2 c .loop .inv .held .sized .k2 ∙ sym (at-start-for-returns-2 c .pre .1 .held .sized .k2)
 
 same-length-13 : tie.Need-same-length-13 Inv-loop μ-loop
-same-length-13 c = c .before .before .before .before .before .before .before .before .before .before .loop .inv .held .heap .tables .agree .lengthPlace ∙ sym (c .before .before .before .before .before .before .before .before .before .before .before .before .before .before .before .before .before .before .before .before .pre .1 .held .heap .tables .agree .lengthPlace)
+same-length-13 c =
+    at-loop-for-returns-2 c .loop .inv .held .heap .tables .agree .lengthPlace
+    ∙ sym (at-start-for-returns-2 c .pre .1 .held .heap .tables .agree .lengthPlace)
 
 same-length-14 : tie.Need-same-length-14 Inv-loop μ-loop
-same-length-14 c = c .before .before .before .before .before .before .before .before .before .before .loop .inv .held .heap .tables .agree .lengthList ∙ sym (c .before .before .before .before .before .before .before .before .before .before .before .before .before .before .before .before .before .before .before .before .pre .1 .held .heap .tables .agree .lengthList)
+same-length-14 c =
+    at-loop-for-returns-2 c .loop .inv .held .heap .tables .agree .lengthList
+    ∙ sym (at-start-for-returns-2 c .pre .1 .held .heap .tables .agree .lengthList)
 
 returns-2 : tie.Need-returns-2 Inv-loop μ-loop
-returns-2 c = finished-done (c .before .before .before .before .before .before .before .before .before .before .loop .inv) (c .enum-told3 .given .1) (c .before .before .chosen2 .ensures)
+returns-2 c = finished-done (at-loop-for-returns-2 c .loop .inv) (c .enum-told3 .given .1) (c .before .before .chosen2 .ensures)
 
 same-length-15 : tie.Need-same-length-15 Inv-loop μ-loop
-same-length-15 c = c .before .before .before .before .before .before .before .before .before .before .loop .inv .held .sized .g ∙ sym (c .before .before .before .before .before .before .before .before .before .before .before .before .before .before .before .before .before .before .before .before .pre .1 .held .sized .g)
+same-length-15 c = at-loop-for-returns-3 c .loop .inv .held .sized .g ∙ sym (at-start-for-returns-3 c .pre .1 .held .sized .g)
 
 same-length-16 : tie.Need-same-length-16 Inv-loop μ-loop
-same-length-16 c = c .before .before .before .before .before .before .before .before .before .before .loop .inv .held .sized .rhs ∙ sym (c .before .before .before .before .before .before .before .before .before .before .before .before .before .before .before .before .before .before .before .before .pre .1 .held .sized .rhs)
+same-length-16 c = at-loop-for-returns-3 c .loop .inv .held .sized .rhs ∙ sym (at-start-for-returns-3 c .pre .1 .held .sized .rhs)
 
 same-length-17 : tie.Need-same-length-17 Inv-loop μ-loop
-same-length-17 c = c .before .before .before .before .before .before .before .before .before .before .loop .inv .held .sized .parent ∙ sym (c .before .before .before .before .before .before .before .before .before .before .before .before .before .before .before .before .before .before .before .before .pre .1 .held .sized .parent)
+same-length-17 c = at-loop-for-returns-3 c .loop .inv .held .sized .parent ∙ sym (at-start-for-returns-3 c .pre .1 .held .sized .parent)
 
 same-length-18 : tie.Need-same-length-18 Inv-loop μ-loop
-same-length-18 c = c .before .before .before .before .before .before .before .before .before .before .loop .inv .held .sized .k1 ∙ sym (c .before .before .before .before .before .before .before .before .before .before .before .before .before .before .before .before .before .before .before .before .pre .1 .held .sized .k1)
+same-length-18 c = at-loop-for-returns-3 c .loop .inv .held .sized .k1 ∙ sym (at-start-for-returns-3 c .pre .1 .held .sized .k1)
 
 same-length-19 : tie.Need-same-length-19 Inv-loop μ-loop
-same-length-19 c = c .before .before .before .before .before .before .before .before .before .before .loop .inv .held .sized .k2 ∙ sym (c .before .before .before .before .before .before .before .before .before .before .before .before .before .before .before .before .before .before .before .before .pre .1 .held .sized .k2)
+same-length-19 c = at-loop-for-returns-3 c .loop .inv .held .sized .k2 ∙ sym (at-start-for-returns-3 c .pre .1 .held .sized .k2)
 
 same-length-20 : tie.Need-same-length-20 Inv-loop μ-loop
-same-length-20 c = c .before .before .before .before .before .before .before .before .before .before .loop .inv .held .heap .tables .agree .lengthPlace ∙ sym (c .before .before .before .before .before .before .before .before .before .before .before .before .before .before .before .before .before .before .before .before .pre .1 .held .heap .tables .agree .lengthPlace)
+same-length-20 c =
+    at-loop-for-returns-3 c .loop .inv .held .heap .tables .agree .lengthPlace
+    ∙ sym (at-start-for-returns-3 c .pre .1 .held .heap .tables .agree .lengthPlace)
 
 same-length-21 : tie.Need-same-length-21 Inv-loop μ-loop
-same-length-21 c = c .before .before .before .before .before .before .before .before .before .before .loop .inv .held .heap .tables .agree .lengthList ∙ sym (c .before .before .before .before .before .before .before .before .before .before .before .before .before .before .before .before .before .before .before .before .pre .1 .held .heap .tables .agree .lengthList)
+same-length-21 c =
+    at-loop-for-returns-3 c .loop .inv .held .heap .tables .agree .lengthList
+    ∙ sym (at-start-for-returns-3 c .pre .1 .held .heap .tables .agree .lengthList)
 
 returns-3 : tie.Need-returns-3 Inv-loop μ-loop
-returns-3 c = finished-cut (c .before .before .before .before .before .before .before .before .before .before .loop .inv) (c .enum-told2 .given .1) (c .before .before .chosen2 .ensures) (c .before .before .before .before .before .before .before .before .before .loop-test .left)
+returns-3 c =
+    finished-cut
+    (at-loop-for-returns-3 c .loop .inv)
+    (c .enum-told2 .given .1)
+    (c .before .before .chosen2 .ensures)
+    (after-loop-from-chosen2 (c .before .before) .loop-test .left)
 
 pub run-spec : {M : Type 1} → statement M
 run-spec =

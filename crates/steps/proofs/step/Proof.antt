@@ -6,18 +6,79 @@ use Rattle.steps.proofs.StepLaws.{became-as, rhs-small, keyed, put-back
 use Rattle.steps.proofs.step.Statement.{statement}
 use Rattle.steps.proofs.step.Tie as tie
 
+-- The places that the answers look back to.
+abbrev at-start-for-spot-of : tie.After-slice-known7 → tie.Start
+at-start-for-spot-of c = c .before .before .before .before .before .before .before .before
+
+abbrev at-start-for-stale : tie.After-stale-arg4 → tie.Start
+at-start-for-stale c = at-start-for-spot-of (c .before .before .before .before .before)
+
+abbrev after-spot-of : tie.After-stale → tie.After-spot-of
+after-spot-of c = c .before .before .before .before .before
+
+abbrev at-start-from-stale : tie.After-stale → tie.Start
+at-start-from-stale c = at-start-for-stale (c .before)
+
+abbrev then-1-for-set-right : tie.After-set-right-arg6 → tie.Then1
+then-1-for-set-right c = c .before .before .before .before .before .before
+
+abbrev after-stale-for-set-right : tie.After-set-right-arg6 → tie.After-stale
+after-stale-for-set-right c = then-1-for-set-right c .before
+
+abbrev then-2-for-lower : tie.After-lower-arg7 → tie.Then2
+then-2-for-lower c = c .before .before .before .before .before .before .before
+
+abbrev else-2-for-raise : tie.After-raise-arg7 → tie.Else2
+else-2-for-raise c = c .before .before .before .before .before .before .before
+
+abbrev after-stale-for-raise : tie.After-raise-arg7 → tie.After-stale
+after-stale-for-raise c = else-2-for-raise c .before .before .before .before
+
+abbrev after-set-right : tie.After-slice-known11 → tie.After-set-right
+after-set-right c = c .before .before .before .before .before .before .before .before
+
+abbrev then-1 : tie.After-slice-known11 → tie.Then1
+then-1 c = then-1-for-set-right (after-set-right c .before)
+
+abbrev at-start : tie.After-slice-known11 → tie.Start
+at-start c = at-start-from-stale (then-1 c .before)
+
+abbrev after-lower : tie.After-slice-known20 → tie.After-lower
+after-lower c = c .before .before .before .before .before .before .before .before .before .before .before .before .before .before
+
+abbrev after-raise : tie.After-slice-known27 → tie.After-raise
+after-raise c = c .before .before .before .before .before .before .before .before .before .before .before .before .before .before
+
+abbrev then-2-for-returns-2 : tie.After-slice-known20 → tie.Then2
+then-2-for-returns-2 c = then-2-for-lower (after-lower c .before)
+
+abbrev else-2-for-returns-3 : tie.After-slice-known27 → tie.Else2
+else-2-for-returns-3 c = else-2-for-raise (after-raise c .before)
+
+abbrev at-start-for-returns-2 : tie.After-slice-known20 → tie.Start
+at-start-for-returns-2 c = at-start-from-stale (then-2-for-returns-2 c .before .before .before .before)
+
+abbrev at-start-for-returns-3 : tie.After-slice-known27 → tie.Start
+at-start-for-returns-3 c = at-start-from-stale (after-stale-for-raise (after-raise c .before))
+
 spot-of-requires : tie.Need-spot-of-requires
-spot-of-requires c κs = c .before .before .before .before .before .before .before .before .pre .0 .obeys .size .wide
+spot-of-requires c κs = at-start-for-spot-of c .pre .0 .obeys .size .wide
 
 stale-requires : tie.Need-stale-requires
 stale-requires c κs =
-    let p = c .before .before .before .before .before .before .before .before .before .before .before .before .before .pre in
+    let p = at-start-for-stale c .pre in
     keyed (p .0) (p .1 .0) (p .1 .1 .0 .0) (p .1 .1 .0 .1) (p .1 .1 .1 .0) (c .before .before .before .before .spot-of .ensures) (p .1 .1 .1 .1)
 
 set-right-requires : tie.Need-set-right-requires
 set-right-requires c κs =
-    let p = c .before .before .before .before .before .before .before .before .before .before .before .before .before .before .before .before .before .before .before .before .before .pre in
-    entering (p .0) (p .1 .0) (p .1 .1 .0 .0) (rhs-small (p .1 .0) (p .1 .1 .0 .1)) (p .1 .1 .1 .0) (c .before .before .before .before .before .before .before .before .before .before .before .before .spot-of .ensures)
+    let p = at-start-from-stale (after-stale-for-set-right c) .pre in
+    entering
+    (p .0)
+    (p .1 .0)
+    (p .1 .1 .0 .0)
+    (rhs-small (p .1 .0) (p .1 .1 .0 .1))
+    (p .1 .1 .1 .0)
+    (after-spot-of (after-stale-for-set-right c) .spot-of .ensures)
 
 same-length : tie.Need-same-length
 same-length c = search needs
@@ -39,25 +100,38 @@ same-length-6 c = search needs
 
 returns : tie.Need-returns
 returns c =
-    let p = c .before .before .before .before .before .before .before .before .before .before .before .before .before .before .before .before .before .before .before .before .before .before .before .before .before .before .before .before .before .before .pre in
-    became-as (c .before .before .before .before .before .before .before .before .set-right .ensures .0 _ _) (put-back-is _ _ _ (c .before .before .before .before .before .before .before .before .before .before .before .before .before .before .before .before .stale .ensures _ (c .before .before .before .before .before .before .before .before .before .before .before .before .before .before .before .before .before .before .before .before .before .before .before .before .before .before .before .before .before .before .args .parent .now) (c .before .before .before .before .before .before .before .before .before .before .before .before .before .before .before .before .before .before .before .before .before .before .before .before .before .before .before .before .before .before .args .place .now) (c .before .before .before .before .before .before .before .before .before .before .before .before .before .before .before .before .before .before .before .before .before .before .before .before .before .before .before .before .before .before .args .list .now)) (c .before .before .before .before .before .before .before .before .before .before .before .before .before .before .before .if1 .taken) (p .1 .1 .1 .1))
+    let p = at-start c .pre in
+    became-as
+    (after-set-right c .set-right .ensures .0 _ _)
+    (put-back-is _ _ _
+    (then-1 c .before .stale .ensures _ (at-start c .args .parent .now) (at-start c .args .place .now) (at-start c .args .list .now))
+    (then-1 c .if1 .taken)
+    (p .1 .1 .1 .1))
 
 mul-if2 : tie.Need-mul-if2
-mul-if2 c = let p = c .before .before .before .before .before .before .before .before .before .before .before .before .before .before .before .pre in omega (arith, p .1 .1 .1 .0, area (p .0 .obeys .size))
+mul-if2 c = let p = at-start-from-stale (c .before) .pre in omega (arith, p .1 .1 .1 .0, area (p .0 .obeys .size))
 
 slice-read-if2 : tie.Need-slice-read-if2
-slice-read-if2 c = let p = c .before .before .before .before .before .before .before .before .before .before .before .before .before .before .before .before .pre in omega (arith, p .1 .1 .1 .0, p .1 .0 .sized .rhs)
+slice-read-if2 c = let p = at-start-from-stale (c .before .before) .pre in omega (arith, p .1 .1 .1 .0, p .1 .0 .sized .rhs)
 
 mul-if2-2 : tie.Need-mul-if2-2
-mul-if2-2 c = let p = c .before .before .before .before .before .before .before .before .before .before .before .before .before .before .before .before .pre in omega (arith, p .1 .1 .1 .0, area (p .0 .obeys .size))
+mul-if2-2 c = let p = at-start-from-stale (c .before .before) .pre in omega (arith, p .1 .1 .1 .0, area (p .0 .obeys .size))
 
 slice-read-if2-2 : tie.Need-slice-read-if2-2
-slice-read-if2-2 c = let p = c .before .before .before .before .before .before .before .before .before .before .before .before .before .before .before .before .before .pre in omega (arith, p .1 .1 .1 .0, p .1 .0 .sized .g)
+slice-read-if2-2 c = let p = at-start-from-stale (c .before .before .before) .pre in omega (arith, p .1 .1 .1 .0, p .1 .0 .sized .g)
 
 lower-requires : tie.Need-lower-requires
 lower-requires c κs =
-    let p = c .before .before .before .before .before .before .before .before .before .before .before .before .before .before .before .before .before .before .before .before .before .before .before .before .before .pre in
-    (p .0, (p .1 .0, (p .1 .1 .0, (p .1 .1 .1 .0, c .before .before .before .before .before .before .before .before .before .before .before .before .before .before .before .before .spot-of .ensures, c .before .before .before .before .before .before .before .if2 .taken))))
+    let p = at-start-from-stale (then-2-for-lower c .before .before .before .before) .pre in (
+      p .0,
+      (
+        p .1 .0,
+        (
+          p .1 .1 .0,
+          (p .1 .1 .1 .0, after-spot-of (then-2-for-lower c .before .before .before .before) .spot-of .ensures, then-2-for-lower c .if2 .taken),
+        ),
+      ),
+    )
 
 same-length-7 : tie.Need-same-length-7
 same-length-7 c = search needs
@@ -81,12 +155,21 @@ same-length-13 : tie.Need-same-length-13
 same-length-13 c = search needs
 
 returns-2 : tie.Need-returns-2
-returns-2 c = became-as (c .before .before .before .before .before .before .before .before .before .before .before .before .before .before .lower .ensures) (lowered-is _ _ _ (c .before .before .before .before .before .before .before .before .before .before .before .before .before .before .before .before .before .before .before .before .before .before .before .before .before .before .stale .ensures _ (c .before .before .before .before .before .before .before .before .before .before .before .before .before .before .before .before .before .before .before .before .before .before .before .before .before .before .before .before .before .before .before .before .before .before .before .before .before .before .before .before .args .parent .now) (c .before .before .before .before .before .before .before .before .before .before .before .before .before .before .before .before .before .before .before .before .before .before .before .before .before .before .before .before .before .before .before .before .before .before .before .before .before .before .before .before .args .place .now) (c .before .before .before .before .before .before .before .before .before .before .before .before .before .before .before .before .before .before .before .before .before .before .before .before .before .before .before .before .before .before .before .before .before .before .before .before .before .before .before .before .args .list .now)) (c .before .before .before .before .before .before .before .before .before .before .before .before .before .before .before .before .before .before .before .before .before .before .before .before .before .if1 .left) (c .before .before .before .before .before .before .before .before .before .before .before .before .before .before .before .before .before .before .before .before .before .before .if2 .taken))
+returns-2 c =
+    became-as
+    (after-lower c .lower .ensures)
+    (lowered-is _ _ _
+    (then-2-for-returns-2 c .before .before .before .before .stale .ensures _
+    (at-start-for-returns-2 c .args .parent .now)
+    (at-start-for-returns-2 c .args .place .now)
+    (at-start-for-returns-2 c .args .list .now))
+    (then-2-for-returns-2 c .before .before .before .if1 .left)
+    (then-2-for-returns-2 c .if2 .taken))
 
 raise-requires : tie.Need-raise-requires
 raise-requires c κs =
-    let p = c .before .before .before .before .before .before .before .before .before .before .before .before .before .before .before .before .before .before .before .before .before .before .before .before .before .pre in
-    (p .0, (p .1 .0, (p .1 .1 .0, (p .1 .1 .1 .0, c .before .before .before .before .before .before .before .before .before .before .before .before .before .before .before .before .spot-of .ensures))))
+    let p = at-start-from-stale (after-stale-for-raise c) .pre in
+    (p .0, (p .1 .0, (p .1 .1 .0, (p .1 .1 .1 .0, after-spot-of (after-stale-for-raise c) .spot-of .ensures))))
 
 same-length-14 : tie.Need-same-length-14
 same-length-14 c = search needs
@@ -110,7 +193,16 @@ same-length-20 : tie.Need-same-length-20
 same-length-20 c = search needs
 
 returns-3 : tie.Need-returns-3
-returns-3 c = became-as (c .before .before .before .before .before .before .before .before .before .before .before .before .before .before .raise .ensures) (raised-is _ _ _ (c .before .before .before .before .before .before .before .before .before .before .before .before .before .before .before .before .before .before .before .before .before .before .before .before .before .before .stale .ensures _ (c .before .before .before .before .before .before .before .before .before .before .before .before .before .before .before .before .before .before .before .before .before .before .before .before .before .before .before .before .before .before .before .before .before .before .before .before .before .before .before .before .args .parent .now) (c .before .before .before .before .before .before .before .before .before .before .before .before .before .before .before .before .before .before .before .before .before .before .before .before .before .before .before .before .before .before .before .before .before .before .before .before .before .before .before .before .args .place .now) (c .before .before .before .before .before .before .before .before .before .before .before .before .before .before .before .before .before .before .before .before .before .before .before .before .before .before .before .before .before .before .before .before .before .before .before .before .before .before .before .before .args .list .now)) (c .before .before .before .before .before .before .before .before .before .before .before .before .before .before .before .before .before .before .before .before .before .before .before .before .before .if1 .left) (c .before .before .before .before .before .before .before .before .before .before .before .before .before .before .before .before .before .before .before .before .before .before .if2 .left))
+returns-3 c =
+    became-as
+    (after-raise c .raise .ensures)
+    (raised-is _ _ _
+    (else-2-for-returns-3 c .before .before .before .before .stale .ensures _
+    (at-start-for-returns-3 c .args .parent .now)
+    (at-start-for-returns-3 c .args .place .now)
+    (at-start-for-returns-3 c .args .list .now))
+    (else-2-for-returns-3 c .before .before .before .if1 .left)
+    (else-2-for-returns-3 c .if2 .left))
 
 pub step-spec : {M : Type 1} → statement M
 step-spec =
