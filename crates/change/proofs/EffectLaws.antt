@@ -6,11 +6,11 @@ use Prim.Native.Nat.{ℕ, _+_, _*_, _≤_, _<_}
 use native.Mathlib.Omega.{arith}
 use native.Mathlib.Decide.{ℕ-discrete, decLt}
 use lib.ListN.{getD, set}
+use Rattle.decide.proofs.ChooseLaws.{choose-yes, choose-no, choose-is}
 use Rattle.method.specs.Numbers.{infinite}
 use Rattle.method.specs.Graph.{Hunt}
 use Rattle.method.specs.Tables as method
 use Rattle.method.specs.Session.{moveChanged}
-use Rattle.method.proofs.Choices.{choose-is, choose-yes, choose-no}
 use Rattle.queue.specs.Queue.{EntryKept}
 use Rattle.plan.specs.Directions.{rowStep, columnStep}
 use Rattle.plan.specs.Costs.{IsByte, IsCost, withByte, Obeys}

@@ -6,11 +6,11 @@ use Prim.Native.Nat.{ℕ, _+_, _≤_, _<_}
 use native.Mathlib.Omega.{arith}
 use native.Mathlib.Decide.{ℕ-discrete, decLt}
 use lib.ListN.{getD}
+use Rattle.decide.proofs.ChooseLaws.{choose-yes, choose-no}
 use Rattle.method.specs.Numbers.{mostCost}
 use Rattle.method.specs.Graph.{Move, move, Hunt}
 use Rattle.method.specs.Tables as method
 use Rattle.method.specs.Steps.{relaxed, relaxedAll, renewed, renewedAll}
-use Rattle.method.proofs.Choices.{choose-yes, choose-no}
 use Rattle.plan.specs.Directions.{opposite}
 use Rattle.plan.specs.Cells.{Stays, entered}
 use Rattle.plan.specs.Grid.{outBy}

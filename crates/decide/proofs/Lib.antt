@@ -1,1 +1,3 @@
+-- The laws of both.
 pub mod DecideLaws
+pub mod ChooseLaws

@@ -6,13 +6,13 @@ use Prim.Native.Nat.{ℕ, zero, suc, _*_, _≤_}
 use native.Mathlib.Omega.{arith}
 use native.Mathlib.Decide.{ℕ-discrete}
 use lib.ListN.{length}
+use Rattle.decide.proofs.ChooseLaws.{differ}
 use Rattle.method.specs.Numbers.{mostSearches}
 use Rattle.method.specs.Graph.{GraphLaws}
 use Rattle.method.specs.Session as calls
 use Rattle.method.specs.Sound as method-sound
 use Rattle.method.specs.Course.{Runs}
 use Rattle.method.specs.Walk.{NoChain, RightAnswer, none-there, way-there}
-use Rattle.method.proofs.Choices.{differ}
 use Rattle.method.proofs.Theorems as method
 use Rattle.queue.specs.Queue.{Heap}
 use Rattle.plan.specs.Costs.{planOf, Obeys}

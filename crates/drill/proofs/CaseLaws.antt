@@ -5,11 +5,12 @@ use mathlib.Core.List.{List, map}
 use Prim.Native.Nat.{ℕ, zero, suc, _<_}
 use native.Mathlib.Omega.{arith}
 use native.Mathlib.Decide.{ℕ-discrete, decLt}
-use Rattle.method.specs.Tables.{choose, firstKey, enter, setRight, better, leastOver, anew, foundAnew}
+use Rattle.decide.specs.Choose.{choose}
+use Rattle.decide.proofs.ChooseLaws.{choose-yes, choose-no}
+use Rattle.method.specs.Tables.{firstKey, enter, setRight, better, leastOver, anew, foundAnew}
 use Rattle.method.specs.Steps.{relaxed, relaxedAll, lowered, renewed, renewedAll, raised, kindOf, stepped}
 use Rattle.method.specs.Loop.{sooner, soonest, leastQueued, goesOn, nextCell, runOn, run}
 use Rattle.method.specs.Session.{blank, fresh, moveChanged, handedOver, takenOver, parentCell, wayFrom, answerOf, search}
-use Rattle.method.proofs.Choices.{choose-yes, choose-no}
 use Rattle.plan.specs.Directions.{shifts}
 use Rattle.plan.specs.Cells.{Stays, stays, estimate}
 use Rattle.plan.specs.Costs.{planOf, isCost}

@@ -5,11 +5,11 @@ use Prim.Native.Nat.{ℕ, zero, suc, _+_, _*_, _≤_, _<_, _^_}
 use native.Mathlib.Omega.{arith}
 use native.Mathlib.Nat.{suc-mul, mul-le-mul}
 use lib.ListN.{length, getD, length-drop, length-append}
+use Rattle.decide.proofs.ChooseLaws.{choose-is}
 use Rattle.method.specs.Tables as method
 use Rattle.method.specs.Graph.{Graph, Hunt}
 use Rattle.method.specs.Loop.{run}
 use Rattle.method.specs.Session as method-session
-use Rattle.method.proofs.Choices.{choose-is}
 use Rattle.method.proofs.Searching.{of-search}
 use Rattle.plan.specs.Costs.{cells}
 use Rattle.plan.specs.Grid.{graphOf}

@@ -6,8 +6,8 @@ use Prim.Native.Nat.{ℕ, _+_, _*_, _≤_}
 use native.Mathlib.Omega.{arith}
 use native.Mathlib.Decide.{ℕ-discrete}
 use lib.ListN.{length}
-use Rattle.method.specs.Tables.{choose}
-use Rattle.method.proofs.Choices.{choose-yes, choose-no}
+use Rattle.decide.specs.Choose.{choose}
+use Rattle.decide.proofs.ChooseLaws.{choose-yes, choose-no}
 use Rattle.plan.specs.Cells.{Size}
 use Rattle.plan.specs.Costs.{planOf}
 use Rattle.tables.specs.declared.Session.{Session}

@@ -6,7 +6,7 @@ use native.Mathlib.Omega.{arith}
 use native.Mathlib.Decide.{ℕ-discrete}
 use lib.ListN.{length, take, drop, length-take, length-drop, length-append}
 use lib.Seq.{drop-drop, drop-at}
-use Rattle.method.proofs.Choices.{choose-yes}
+use Rattle.decide.proofs.ChooseLaws.{choose-yes}
 use Rattle.plan.proofs.MoveLaws.{area}
 use Rattle.tables.specs.declared.Session.{Session}
 use Rattle.tables.specs.Lent.{Tables, cells}

@@ -8,10 +8,10 @@ use native.Mathlib.Decide.{ℕ-discrete, decLt}
 use lib.Dec.{leb}
 use lib.ListN.{length, take, drop}
 use lib.Seq.{take-append-seam}
-use Rattle.method.specs.Tables.{choose}
 use Rattle.method.specs.Session as method-session
-use Rattle.method.proofs.Choices.{choose-yes, choose-no}
+use Rattle.decide.specs.Choose.{choose}
 use Rattle.decide.specs.Decides.{Decides}
+use Rattle.decide.proofs.ChooseLaws.{choose-yes, choose-no}
 use Rattle.decide.proofs.DecideLaws.{decides-le}
 use Rattle.plan.specs.Costs.{planOf}
 use Rattle.plan.specs.Costs as costs

@@ -4,7 +4,7 @@ use mathlib.Core.Logic.{_⊎_, inl, inr, ⊎-elim, Dec·and}
 use Prim.Native.Nat.{ℕ, zero, suc, _<_}
 use native.Mathlib.Omega.{arith}
 use native.Mathlib.Decide.{ℕ-discrete, decLt}
-use Rattle.method.specs.Tables.{choose}
+use Rattle.decide.specs.Choose.{choose}
 use Rattle.plan.specs.Cells.{Stays, stays}
 use Rattle.plan.specs.Costs.{Plan, cells, byte, shut, IsCost, isCost, IsByte, Bytes, Edge, Edges}
 

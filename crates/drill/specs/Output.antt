@@ -3,7 +3,7 @@ use mathlib.Core.List.{List}
 use Prim.Native.Nat.{ℕ, _*_}
 use native.Mathlib.Decide.{ℕ-discrete}
 use lib.ListN.{take}
-use Rattle.method.specs.Tables.{choose}
+use Rattle.decide.specs.Choose.{choose}
 use Rattle.method.specs.Session.{opened, fresh}
 use Rattle.plan.specs.Costs.{Plan, planOf}
 use Rattle.plan.specs.Grid.{graphOf}

@@ -9,8 +9,8 @@ use native.Mathlib.Nat.{add-assoc}
 use native.Mathlib.Omega.{arith}
 use lib.Dec.{T}
 use lib.ListN.{length, getD}
-use Rattle.method.specs.Tables.{choose}
-use Rattle.method.proofs.Choices.{choose-yes, choose-no, choose-is}
+use Rattle.decide.specs.Choose.{choose}
+use Rattle.decide.proofs.ChooseLaws.{choose-yes, choose-no, choose-is}
 use Rattle.plan.proofs.MoveLaws.{area}
 use types.Run.{OneOf}
 use denote.Enum.Declared.{tagOf}

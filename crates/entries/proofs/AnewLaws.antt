@@ -7,10 +7,10 @@ use native.Mathlib.Numerals.{add-one}
 use native.Mathlib.Omega.{arith}
 use native.Mathlib.Decide.{decLt}
 use lib.ListN.{getD}
+use Rattle.decide.proofs.ChooseLaws.{choose-yes, choose-no}
 use Rattle.method.specs.Numbers.{infinite}
 use Rattle.method.specs.Graph.{Move, move}
 use Rattle.method.specs.Tables.{Found, found, better, leastOver}
-use Rattle.method.proofs.Choices.{choose-yes, choose-no}
 use Rattle.method.proofs.Appending.{leastOver-append}
 use Rattle.plan.specs.Costs.{Plan, cells, Obeys}
 use Rattle.plan.specs.Grid.{intoBy, upTo}

@@ -7,9 +7,9 @@ use Prim.Native.Nat.{ℕ, _+_, _<_, min}
 use native.Mathlib.Omega.{arith}
 use native.Mathlib.Decide.{ℕ-discrete}
 use lib.ListN.{getD, length}
+use Rattle.decide.proofs.ChooseLaws.{choose-yes, choose-no}
 use Rattle.method.specs.Numbers.{infinite}
 use Rattle.method.specs.Tables as method
-use Rattle.method.proofs.Choices.{choose-yes, choose-no}
 use Rattle.method.proofs.Entries.{first-finite}
 use Rattle.queue.specs.Queue.{absent, members, Heap, Changed, EntryKept}
 use Rattle.queue.proofs.MemberLaws.{missing, member-at, place-member}

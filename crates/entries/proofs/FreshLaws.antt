@@ -8,10 +8,10 @@ use native.Mathlib.Omega.{arith}
 use native.Mathlib.Decide.{ℕ-discrete}
 use lib.ListN.{length, getD, set, replicate, length-replicate, getD-replicate, length-set}
 use lib.Seq.{getD-set-same, getD-set-other}
+use Rattle.decide.proofs.ChooseLaws.{choose-no}
 use Rattle.method.specs.Numbers.{infinite}
 use Rattle.method.specs.Tables as method
 use Rattle.method.specs.Session.{blank, fresh}
-use Rattle.method.proofs.Choices.{choose-no}
 use Rattle.queue.specs.Queue.{absent, isPlace, members, Heap}
 use Rattle.queue.proofs.MemberLaws.{tally, tally-none, tally-less}
 use Rattle.queue.proofs.PlaceLaws.{counted}

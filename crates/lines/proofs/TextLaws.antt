@@ -8,8 +8,8 @@ use native.Mathlib.Numerals.{add-one}
 use native.Mathlib.Omega.{arith}
 use lib.ListN.{length, take, getD, length-append}
 use lib.Seq.{take-suc}
-use Rattle.method.specs.Tables.{choose}
-use Rattle.method.proofs.Choices.{choose-yes, choose-no, choose-is}
+use Rattle.decide.specs.Choose.{choose}
+use Rattle.decide.proofs.ChooseLaws.{choose-yes, choose-no, choose-is}
 use Rattle.lines.specs.Text.{bytes, digits, decimal, spaced}
 
 -- A number below ten is its one digit.

@@ -4,7 +4,7 @@ use Prim.Native.Nat.{ℕ, zero, suc, _+_, _*_, _/_, _%_}
 use Prim.Native.Char.{code}
 use Prim.Native.String.{String, [] as empty, _∷_ as _then_}
 use native.Mathlib.Decide.{decLt}
-use Rattle.method.specs.Tables.{choose}
+use Rattle.decide.specs.Choose.{choose}
 use Rattle.answer.specs.declared.Answer.{Answer}
 use Rattle.answer.specs.declared.Answer.the-variants.{Caught, NoWay, Way, Refused}
 

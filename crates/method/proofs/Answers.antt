@@ -6,13 +6,13 @@ use Prim.Native.Nat.{ℕ, zero, suc, _+_, _-_, _≤_, _<_}
 use native.Mathlib.Omega.{arith}
 use native.Mathlib.Decide.{ℕ-discrete, decLe}
 use lib.ListN.{length, getD, length-append}
+use Rattle.decide.proofs.ChooseLaws.{choose-yes, choose-no, choose-is}
 use Rattle.method.specs.Numbers.{infinite, mostCost}
 use Rattle.method.specs.Graph.{Move, move, Graph, Comes, GraphLaws, Hunt}
 use Rattle.method.specs.Tables.{Tables, gAt, rhsAt, parentAt, storedKey}
 use Rattle.method.specs.Session.{parentCell, wayFrom}
 use Rattle.method.specs.Walk.{Chain, stay, go, NoChain, Cheapest}
 use Rattle.method.proofs.Counting.{lack, lack-le, lack-no, lack-keep, lack-gain, sum, sum-bound, sum-drop}
-use Rattle.method.proofs.Choices.{choose-yes, choose-no, choose-is}
 use Rattle.method.proofs.Notions.{Stands, keyAt, key, Inconsistent, ReachedAt, Right}
 
 -- The loop has stopped: rhs of the target is not above its g, and no stored key is below the target's finite key.

@@ -4,12 +4,12 @@ use mathlib.Core.Logic.{_⊎_, inl, inr, _≢_}
 use Prim.Native.Nat.{ℕ, _+_, _≤_, _<_}
 use native.Mathlib.Omega.{arith}
 use native.Mathlib.Decide.{ℕ-discrete}
+use Rattle.decide.proofs.ChooseLaws.{choose-is}
 use Rattle.method.specs.Graph.{Graph, Comes, Hunt}
 use Rattle.method.specs.Tables.{Tables, Sized, gAt, rhsAt, parentAt, Least}
 use Rattle.method.specs.Session.{Session, huntOf, moveChanged}
 use Rattle.method.specs.Sound.{Sound}
 use Rattle.method.specs.Change.{Altered}
-use Rattle.method.proofs.Choices.{choose-is}
 use Rattle.method.proofs.Notions.{LeastAt, Right}
 use Rattle.method.proofs.Keeping.{Held, least-stays}
 use Rattle.method.proofs.LeastSums.{anew-least}

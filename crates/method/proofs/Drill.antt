@@ -4,8 +4,9 @@ use mathlib.Core.Bool.{true, false}
 use mathlib.Core.List.{List, [], _∷_, _++_}
 use Prim.Native.Nat.{ℕ, zero, suc, _+_, _-_}
 use native.Mathlib.Decide.{ℕ-discrete, decLe, decLt}
+use Rattle.decide.specs.Choose.{choose}
 use Rattle.method.specs.Graph.{Move, move, Graph}
-use Rattle.method.specs.Tables.{Tables, choose, firstKey, enter, setRight, better, leastOver, anew, foundAnew}
+use Rattle.method.specs.Tables.{Tables, firstKey, enter, setRight, better, leastOver, anew, foundAnew}
 use Rattle.method.specs.Steps.{relaxed, relaxedAll, lowered, renewed, renewedAll, raised, kindOf, stepped}
 use Rattle.method.specs.Loop.{sooner, soonest, leastQueued, goesOn, nextCell, isNone, runOn, run}
 use Rattle.method.specs.Session.{Session, huntOf, opened, blank, fresh, hunterPlaced, targetPlaced, moveChanged, handedOver, takenOver, parentCell, wayFrom, Answer, caught, none-leads, way, answerOf, search}

@@ -7,10 +7,10 @@ use native.Mathlib.Omega.{arith}
 use native.Mathlib.Decide.{ℕ-discrete}
 use lib.ListN.{getD, set, length-set}
 use lib.Seq.{getD-set-same, getD-set-other}
+use Rattle.decide.proofs.ChooseLaws.{choose-yes, choose-no, choose-is}
 use Rattle.method.specs.Numbers.{infinite}
 use Rattle.method.specs.Graph.{Hunt}
 use Rattle.method.specs.Tables.{Tables, Sized, gAt, rhsAt, parentAt, withG, withRhs, withEntry, lesser, firstKey, calculatedKey, enter, leave, setRight, anew, foundAnew}
-use Rattle.method.proofs.Choices.{choose-yes, choose-no, choose-is}
 use Rattle.method.proofs.Notions.{key, Inconsistent, EntryRight, SameEntry, Same}
 use Rattle.method.proofs.LeastSums.{anew-least}
 

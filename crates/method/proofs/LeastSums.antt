@@ -5,10 +5,10 @@ use mathlib.Core.List.{List, [], _∷_, List·Memᴰ, List·Memᴰ·head, List·
 use Prim.Native.Nat.{ℕ, _+_, _≤_, _<_}
 use native.Mathlib.Omega.{arith}
 use lib.ListN.{getD}
+use Rattle.decide.proofs.ChooseLaws.{choose-is}
 use Rattle.method.specs.Numbers.{infinite}
 use Rattle.method.specs.Graph.{Move, move, Graph}
 use Rattle.method.specs.Tables.{Found, found, better, leastOver, anew, Via, Least}
-use Rattle.method.proofs.Choices.{choose-is}
 
 -- r came from looking through the moves of l, f the least found before
 record Over (g : List ℕ) (f : Found) (l : List Move) (r : Found) : Type 0 where

@@ -1,6 +1,5 @@
 -- The proofs, from the ground up. Theorems has what they come to; Drill computes.
 pub mod Counting
-pub mod Choices
 pub mod Notions
 pub mod Facts
 pub mod Keeping

@@ -6,13 +6,13 @@ use Prim.Native.Nat.{ℕ, suc, _+_, _*_, _≤_, _<_}
 use native.Mathlib.Omega.{arith}
 use lib.ListN.{getD, set, length-set, length-replicate, getD-replicate}
 use lib.Seq.{getD-set-same, getD-set-other}
+use Rattle.decide.proofs.ChooseLaws.{choose-is}
 use Rattle.method.specs.Numbers.{infinite, mostCost, mostEstimate, mostSearches, growth}
 use Rattle.method.specs.Graph.{Graph, GraphLaws, Hunt}
 use Rattle.method.specs.Tables.{Tables, Sized, gAt, rhsAt, parentAt, queuedAt, storedKey, anew, Least}
 use Rattle.method.specs.Session.{Session, huntOf, State, opened, blank, fresh, freshStart, targetTaken, hunterTaken, handedOver, takenOver}
 use Rattle.method.specs.Sound.{Sound}
 use Rattle.method.specs.Growth.{FiniteUpTo}
-use Rattle.method.proofs.Choices.{choose-is}
 use Rattle.method.proofs.Notions.{Stands, Right}
 use Rattle.method.proofs.Keeping.{Held, queue-same}
 use Rattle.method.proofs.Bounds.{Bound, finite-le, bound-more, rhs-bound}

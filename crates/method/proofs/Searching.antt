@@ -6,6 +6,7 @@ use mathlib.Core.List.{List, []}
 use Prim.Native.Nat.{ℕ, suc, _+_, _-_, _*_, _≤_, _<_}
 use native.Mathlib.Omega.{arith}
 use lib.ListN.{length}
+use Rattle.decide.proofs.ChooseLaws.{choose-is, differ}
 use Rattle.method.specs.Numbers.{infinite, mostCost, mostEstimate, growth}
 use Rattle.method.specs.Graph.{Graph, GraphLaws, Hunt}
 use Rattle.method.specs.Tables.{Tables, rhsAt}
@@ -13,7 +14,6 @@ use Rattle.method.specs.Loop.{Ran, run}
 use Rattle.method.specs.Session.{Session, huntOf, takenOver, counted, Answer, caught, way, wayFrom, answerOf, Outcome, searchedFrom, search}
 use Rattle.method.specs.Sound.{Sound}
 use Rattle.method.specs.Walk.{RightAnswer, none-there, way-there}
-use Rattle.method.proofs.Choices.{choose-is, differ}
 use Rattle.method.proofs.Notions.{Stands}
 use Rattle.method.proofs.Facts.{rhs-le, toCome, toCome-le}
 use Rattle.method.proofs.Answers.{Stopped, Room, no-chain, cheapest}

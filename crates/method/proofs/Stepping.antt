@@ -8,11 +8,12 @@ use native.Mathlib.Omega.{arith}
 use native.Mathlib.Decide.{ℕ-discrete, decLt}
 use lib.ListN.{getD, set}
 use lib.Seq.{getD-set-same, getD-set-other}
+use Rattle.decide.specs.Choose.{choose}
+use Rattle.decide.proofs.ChooseLaws.{choose-is}
 use Rattle.method.specs.Numbers.{infinite}
 use Rattle.method.specs.Graph.{Move, move, Hunt}
-use Rattle.method.specs.Tables.{Tables, Sized, gAt, rhsAt, parentAt, withG, withRhs, storedKey, calculatedKey, choose, enter, leave, setRight, anew, foundAnew}
+use Rattle.method.specs.Tables.{Tables, Sized, gAt, rhsAt, parentAt, withG, withRhs, storedKey, calculatedKey, enter, leave, setRight, anew, foundAnew}
 use Rattle.method.specs.Steps.{relaxed, relaxedAll, lowered, renewed, renewedAll, raised, put-back, lower, raise, kindOf, stepped}
-use Rattle.method.proofs.Choices.{choose-is}
 use Rattle.method.proofs.Notions.{Stands, key, EntryRight, Right, Pick, Same, PutBack, Lowered, Lower, Kept, Renewed, Raise, Did, did-put-back, did-lower, did-raise}
 use Rattle.method.proofs.Facts.{rhs-le}
 use Rattle.method.proofs.Keeping.{entry-same}

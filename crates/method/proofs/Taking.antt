@@ -6,11 +6,11 @@ use mathlib.Core.Option.{Option, none, some}
 use Prim.Native.Nat.{ℕ, zero, suc, _<_}
 use native.Mathlib.Omega.{arith}
 use native.Mathlib.Decide.{ℕ-discrete, decLt}
+use Rattle.decide.proofs.ChooseLaws.{choose-yes, choose-no, choose-is}
 use Rattle.method.specs.Graph.{Graph, GraphLaws, Hunt}
 use Rattle.method.specs.Tables.{Tables, gAt, rhsAt, queuedAt, storedKey, calculatedKey}
 use Rattle.method.specs.Loop.{sooner, soonest, leastQueued, goesOn, nextCell}
 use Rattle.method.specs.Course.{Before, LeastCell, Continues}
-use Rattle.method.proofs.Choices.{choose-yes, choose-no, choose-is}
 
 -- What an answer of `leastQueued` says of the cells below n.
 abbrev pub Named : Graph → Tables → ℕ → Option ℕ → Type 0

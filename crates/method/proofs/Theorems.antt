@@ -8,6 +8,7 @@ use Prim.Native.Nat.{ℕ, zero, suc, _+_, _-_, _*_, _≤_, _<_}
 use native.Mathlib.Omega.{arith}
 use native.Mathlib.Decide.{decLt}
 use lib.ListN.{length, getD}
+use Rattle.decide.proofs.ChooseLaws.{differ}
 use Rattle.method.specs.Numbers.{infinite, mostCost, mostEstimate, mostSearches, growth}
 use Rattle.method.specs.Graph.{Graph, GraphLaws, Hunt}
 use Rattle.method.specs.Tables.{Tables, Sized, gAt, rhsAt, queuedAt, keyNumber, lesser, firstKey}
@@ -19,7 +20,6 @@ use Rattle.method.specs.Sound.{Sound}
 use Rattle.method.specs.Walk.{NoChain, RightAnswer, none-there, way-there, Once, none-yet}
 use Rattle.method.specs.Change.{Altered}
 use Rattle.method.specs.Growth.{NumbersFit, RaisesAtMost}
-use Rattle.method.proofs.Choices.{differ}
 use Rattle.method.proofs.Notions.{Inconsistent}
 use Rattle.method.proofs.Facts.{rhs-le}
 use Rattle.method.proofs.Bounds.{or-infinite, rhs-bound, lesser-finite, sum-fits, key-fits}

@@ -4,8 +4,9 @@ use mathlib.Core.Option.{Option, none, some}
 use mathlib.Core.List.{List, [], _∷_}
 use Prim.Native.Nat.{ℕ, zero, suc}
 use native.Mathlib.Decide.{decLt}
+use Rattle.decide.specs.Choose.{choose}
 use Rattle.method.specs.Graph.{Graph, Hunt}
-use Rattle.method.specs.Tables.{Tables, gAt, rhsAt, queuedAt, choose, storedKey, calculatedKey}
+use Rattle.method.specs.Tables.{Tables, gAt, rhsAt, queuedAt, storedKey, calculatedKey}
 use Rattle.method.specs.Steps.{Kind, kindOf, stepped}
 
 -- The one of two queued cells that is taken first: by stored key, then by the tie.

@@ -4,9 +4,10 @@ use mathlib.Core.List.{List, [], _∷_}
 use Prim.Native.Nat.{ℕ, zero, suc, _+_, _-_, _*_}
 use native.Mathlib.Decide.{ℕ-discrete, decLt}
 use lib.ListN.{length, getD, set, replicate}
+use Rattle.decide.specs.Choose.{choose}
 use Rattle.method.specs.Numbers.{infinite, mostSearches}
 use Rattle.method.specs.Graph.{Move, Graph, Hunt}
-use Rattle.method.specs.Tables.{Tables, gAt, rhsAt, parentAt, withRhs, choose, setRight, foundAnew}
+use Rattle.method.specs.Tables.{Tables, gAt, rhsAt, parentAt, withRhs, setRight, foundAnew}
 use Rattle.method.specs.Loop.{Step, Ran, run}
 
 -- "the hunter and target as placed, the hunter and target of the last search, km, and the number of searches since the last fresh start"

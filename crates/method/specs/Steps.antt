@@ -2,9 +2,10 @@
 use mathlib.Core.List.{List, [], _∷_}
 use Prim.Native.Nat.{ℕ, _+_}
 use native.Mathlib.Decide.{ℕ-discrete, decLt}
+use Rattle.decide.specs.Choose.{choose}
 use Rattle.method.specs.Numbers.{infinite}
 use Rattle.method.specs.Graph.{Move, Hunt}
-use Rattle.method.specs.Tables.{Tables, gAt, rhsAt, parentAt, withG, withRhs, choose, storedKey, calculatedKey, enter, leave, setRight, foundAnew}
+use Rattle.method.specs.Tables.{Tables, gAt, rhsAt, parentAt, withG, withRhs, storedKey, calculatedKey, enter, leave, setRight, foundAnew}
 
 -- Lower, one open move from u to s, where v is the new g(u): "s not the hunter, with rhs(s) > g(u) + cost: new rhs, parent u, queue entry set right".
 unfoldable pub relaxed : Hunt → ℕ → Tables → Move → Tables

@@ -6,6 +6,7 @@ use mathlib.Core.List.{List, [], _∷_}
 use Prim.Native.Nat.{ℕ, _+_, _*_, _≤_, _<_, min}
 use native.Mathlib.Decide.{ℕ-discrete, decLt}
 use lib.ListN.{length, getD, set}
+use Rattle.decide.specs.Choose.{choose}
 use Rattle.method.specs.Numbers.{infinite}
 use Rattle.method.specs.Graph.{Move, Graph, Comes, Hunt}
 
@@ -48,11 +49,6 @@ withRhs T s r p = record { g = T .g; rhs = set (T .rhs) s r; parent = set (T .pa
 
 abbrev pub withEntry : Tables → ℕ → ℕ → ℕ → Bool → Tables
 withEntry T s a b q = record { g = T .g; rhs = T .rhs; parent = T .parent; k1 = set (T .k1) s a; k2 = set (T .k2) s b; queued = set (T .queued) s q }
-
--- The one or the other, as a test says.
-unfoldable pub choose : {A P : Type 0} → Dec P → A → A → A
-choose (yes p) a b = a
-choose (no n) a b = b
 
 -- A key (k1, k2) as one number: both are below 2³², so its order compares k1 first.
 abbrev pub keyNumber : ℕ → ℕ → ℕ

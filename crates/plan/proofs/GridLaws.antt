@@ -9,8 +9,8 @@ use native.Mathlib.Omega.{arith}
 use native.Mathlib.Decide.{ℕ-discrete, decLt}
 use lib.Dec.{ltb}
 use borrow.Author.Tests.{ltb-true, lt-ltb, le-ltb}
+use Rattle.decide.specs.Choose.{choose}
 use Rattle.method.specs.Graph.{Move, move, GraphLaws}
-use Rattle.method.specs.Tables.{choose}
 use Rattle.plan.specs.Directions.{opposite}
 use Rattle.plan.specs.Cells.{Size, Stays, stays, entered}
 use Rattle.plan.specs.Costs.{Plan, cells, byte, IsCost, isCost}

@@ -7,10 +7,10 @@ use native.Mathlib.Nat.{mul-le-mul, add-mul, mod-lt, div-add-mod'}
 use native.Mathlib.Omega.{arith}
 use lib.Dec.{lit<, ltb}
 use lib.ListN.{getD}
+use Rattle.decide.specs.Choose.{choose}
 use Rattle.decide.specs.Decides.{Decides}
 use Rattle.decide.proofs.DecideLaws.{decides-lt}
 use Rattle.method.specs.Graph.{Move, move}
-use Rattle.method.specs.Tables.{choose}
 use Rattle.plan.specs.Directions.{rowStep, columnStep, opposite}
 use Rattle.plan.specs.Cells.{Size, row, column, Stands, Stays, stays, entered}
 use Rattle.plan.specs.Costs.{Plan, cells, byte, shut, IsCost, isCost, IsByte, Bytes, Obeys}

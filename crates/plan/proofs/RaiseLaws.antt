@@ -4,6 +4,7 @@ use mathlib.Core.Logic.{_⊎_, inl, inr, _≢_, _↔_}
 use mathlib.Core.Option.{some}
 use Prim.Native.Nat.{ℕ, _+_, _<_}
 use native.Mathlib.Omega.{arith}
+use Rattle.decide.proofs.ChooseLaws.{differ}
 use Rattle.method.specs.Numbers.{infinite}
 use Rattle.method.specs.Graph.{Comes, GraphLaws, Hunt}
 use Rattle.method.specs.Tables.{Tables, gAt, rhsAt, parentAt, queuedAt, storedKey, Via, Least}
@@ -11,7 +12,6 @@ use Rattle.method.specs.Steps.{Kind, raise, kindOf, stepped}
 use Rattle.method.specs.Loop.{nextCell}
 use Rattle.method.specs.Session.{Session}
 use Rattle.method.specs.Sound.{Sound}
-use Rattle.method.proofs.Choices.{differ}
 use Rattle.method.proofs.Notions.{Kept, Renewed, Raise, Did, did-put-back, did-lower, did-raise}
 use Rattle.method.proofs.Bounds.{During}
 use Rattle.method.proofs.Running.{did-next}

@@ -2,8 +2,8 @@
 use mathlib.Core.List.{List, [], _∷_, _++_}
 use Prim.Native.Nat.{ℕ, zero, suc, _+_}
 use lib.Dec.{ltb}
+use Rattle.decide.specs.Choose.{choose}
 use Rattle.method.specs.Graph.{Move, move, Graph}
-use Rattle.method.specs.Tables.{choose}
 use Rattle.plan.specs.Directions.{opposite}
 use Rattle.plan.specs.Cells.{stays, entered, estimate}
 use Rattle.plan.specs.Costs.{Plan, cells, byte, isCost}

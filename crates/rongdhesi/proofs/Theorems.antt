@@ -7,8 +7,8 @@ use Prim.Native.Nat.{ℕ, _≤_}
 use native.Mathlib.Omega.{arith}
 use native.Mathlib.Decide.{ℕ-discrete}
 use lib.ListN.{length}
+use Rattle.decide.proofs.ChooseLaws.{differ}
 use Rattle.method.specs.Walk.{NoChain}
-use Rattle.method.proofs.Choices.{differ}
 use Rattle.tables.specs.declared.Session.{Session}
 use Rattle.tables.specs.Lent.{Tables, cells, graph}
 use Rattle.tables.specs.Sound.{Sound}

@@ -7,12 +7,12 @@ use Prim.Native.Nat.{ℕ, suc, _+_, _-_, _*_, _≤_, _<_}
 use native.Mathlib.Omega.{arith}
 use native.Mathlib.Decide.{ℕ-discrete}
 use lib.ListN.{getD, length, set}
+use Rattle.decide.proofs.ChooseLaws.{choose-yes, choose-no}
 use Rattle.method.specs.Numbers.{infinite}
 use Rattle.method.specs.Graph.{GraphLaws}
 use Rattle.method.specs.Tables as method
 use Rattle.method.specs.Loop.{Ran, run}
 use Rattle.method.specs.Session as calls
-use Rattle.method.proofs.Choices.{choose-yes, choose-no}
 use Rattle.method.proofs.Bounds.{During}
 use Rattle.method.proofs.Facts.{rhs-le}
 use Rattle.method.proofs.Readying.{takenOver-sized, ready}

@@ -11,11 +11,11 @@ use lib.Dec.{ltb}
 use lib.ListN.{getD, set, length, length-set}
 use lib.Seq.{getD-set-same}
 use borrow.Author.Tests.{ltb-true, ltb-false}
+use Rattle.decide.proofs.ChooseLaws.{choose-yes, choose-no}
 use Rattle.method.specs.Numbers.{infinite, mostCost}
 use Rattle.method.specs.Graph.{Move, Hunt}
 use Rattle.method.specs.Tables as method
 use Rattle.method.specs.Steps.{relaxedAll, lowered, renewedAll, raised, stepped}
-use Rattle.method.proofs.Choices.{choose-yes, choose-no}
 use Rattle.method.proofs.Appending.{relaxedAll-append, renewedAll-append}
 use Rattle.plan.specs.Directions.{rowStep, columnStep}
 use Rattle.plan.specs.Grid.{outBy, upTo}

@@ -5,10 +5,10 @@ use Prim.Native.Nat.{ℕ, _+_, _*_, _<_}
 use native.Mathlib.Omega.{arith}
 use native.Mathlib.Decide.{ℕ-discrete}
 use lib.ListN.{getD, length, set, length-set}
+use Rattle.decide.proofs.ChooseLaws.{choose-yes, choose-no}
 use Rattle.method.specs.Numbers.{infinite, mostSearches}
 use Rattle.method.specs.Tables as method
 use Rattle.method.specs.Session as calls
-use Rattle.method.proofs.Choices.{choose-yes, choose-no}
 use Rattle.method.proofs.Readying.{handedOver-sized}
 use Rattle.plan.specs.Cells.{Size, estimate}
 use Rattle.plan.specs.Reached.{At, Placed, between}

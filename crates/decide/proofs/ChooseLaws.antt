@@ -2,14 +2,16 @@
 use mathlib.Core.Path.{_≡_, refl}
 use Prim.Native.Nat.{ℕ}
 use native.Mathlib.Omega.{arith}
-use Rattle.method.specs.Tables.{choose}
+use Rattle.decide.specs.Choose.{choose}
 
 module _ {A P : Type 0} where
+  -- where the test's statement holds, the first is chosen
   pub choose-yes : (d : Dec P) (a b : A) → P → choose d a b ≡ a
   unfolding choose
   choose-yes (yes p) a b q = refl
   choose-yes (no n) a b q = absurd (n q)
 
+  -- where it does not hold, the second
   pub choose-no : (d : Dec P) (a b : A) → (P → ⊥) → choose d a b ≡ b
   unfolding choose
   choose-no (yes p) a b q = absurd (q p)
