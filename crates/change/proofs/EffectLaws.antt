@@ -138,8 +138,8 @@ module _ {s : Session} {t : Tables} {u d cost : ℕ} (W : Workable s t u d cost)
           (entering
           (record {
             obeys = obeys-after;
-            hunter-in = W .sound .numbers .last-hunter-in;
-            target-in = W .sound .numbers .last-target-in;
+            hunter-in = W .sound .numbers .origin-in;
+            target-in = W .sound .numbers .goal-in;
             target-at = O .target-at;
             km-le = omega (arith, W .sound .numbers .km-le, W .sound .numbers .searches-le);
           })

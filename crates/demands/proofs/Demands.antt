@@ -205,7 +205,7 @@ same-record {r} {r′} ew eh es ec =
     ∙ ap (λ n. built (r′ .width) (r′ .height) (session r′) n) ec
   where
     built : ℕ → ℕ → calls.Session → ℕ → Session
-    built w h σ n = record { width = w; height = h; hunter = σ .hunter; target = σ .target; origin = σ .lastHunter; goal = σ .lastTarget; km = σ .km; count = n; searches = σ .searches }
+    built w h σ n = record { width = w; height = h; hunter = σ .hunter; target = σ .target; origin = σ .origin; goal = σ .goal; km = σ .km; count = n; searches = σ .searches }
 
 same-outcome : {r r′ : Outcome} → r .session ≡ r′ .session → r .answer ≡ r′ .answer → r ≡ r′
 same-outcome {r} {r′} e f = ap (λ x. made x (r .answer)) e ∙ ap (λ x. made (r′ .session) x) f

@@ -68,13 +68,13 @@ module _ {G G′ : Graph} {σ : Session} {T : Tables} {v k u old new : ℕ} (A :
   cell-in s l = omega (arith, A .cells)
 
   held : (s : ℕ) → s < G .cells → Held (huntOf G′ σ) T s
-  held s l = (R .queue s l, λ n. omega (arith, R .keys s l n, A .estimate s (σ .lastTarget)))
+  held s l = (R .queue s l, λ n. omega (arith, R .keys s l n, A .estimate s (σ .goal)))
 
   -- a cell other than v
-  apart : (s : ℕ) → s < G .cells → s ≢ σ .lastHunter → s ≢ v → LeastAt G′ T s
+  apart : (s : ℕ) → s < G .cells → s ≢ σ .origin → s ≢ v → LeastAt G′ T s
   apart s l ns ne = keeps A (λ w. gAt T w) (λ e. absurd (ne e)) (λ e. absurd (ne e)) (R .least s l ns)
 
-  changed-none : ((s : ℕ) → s < G .cells → s ≢ σ .lastHunter → LeastAt G′ T s) → Changed (huntOf G′ σ) T T
+  changed-none : ((s : ℕ) → s < G .cells → s ≢ σ .origin → LeastAt G′ T s) → Changed (huntOf G′ σ) T T
   changed-none least = record {
     right = record {
       g-le = λ s l. R .g-le s (cell-in s l);
@@ -89,17 +89,17 @@ module _ {G G′ : Graph} {σ : Session} {T : Tables} {v k u old new : ℕ} (A :
   }
 
   -- v keeps its numbers
-  changed-kept : (v ≢ σ .lastHunter → (rhsAt T v ≤ gAt T u + new) × (parentAt T v ≡ k → rhsAt T v ≡ gAt T u + old → ⊥)) → Changed (huntOf G′ σ) T T
+  changed-kept : (v ≢ σ .origin → (rhsAt T v ≤ gAt T u + new) × (parentAt T v ≡ k → rhsAt T v ≡ gAt T u + old → ⊥)) → Changed (huntOf G′ σ) T T
   changed-kept f = changed-none (λ s l ns. at s l ns (ℕ-discrete s v))
     where
-      at : (s : ℕ) → s < G .cells → s ≢ σ .lastHunter → Dec (s ≡ v) → LeastAt G′ T s
+      at : (s : ℕ) → s < G .cells → s ≢ σ .origin → Dec (s ≡ v) → LeastAt G′ T s
       at s l ns (yes e) = rw e (let nv = rw e at ns in keeps A (λ w. gAt T w) (λ _. f nv .0) (λ _. f nv .1) (R .least v lv nv))
       at s l ns (no ne) = apart s l ns ne
 
   -- v is written
-  changed-reset : {E : Tables} {r p : ℕ} → v ≢ σ .lastHunter → Reset (huntOf G′ σ) T E v r p → Least G′ (λ w. gAt T w) v r p → Changed (huntOf G′ σ) T E
+  changed-reset : {E : Tables} {r p : ℕ} → v ≢ σ .origin → Reset (huntOf G′ σ) T E v r p → Least G′ (λ w. gAt T w) v r p → Changed (huntOf G′ σ) T E
   changed-reset {E} nv Z L =
-      let e = Z .other (σ .lastHunter) (λ q. nv (sym q)) in
+      let e = Z .other (σ .origin) (λ q. nv (sym q)) in
       record {
         right =
             reset-right Z (λ s l. R .g-le s (cell-in s l)) (omega (arith, e .rhs, R .hunter-finite)) (e .parent ∙ R .hunter-parent)

@@ -97,7 +97,7 @@ target-right L σ R = record {
   hunter-parent = R .hunter-parent;
   least = R .least;
   queue = R .queue;
-  keys = λ s l q. omega (arith, R .keys s l q, L .triangle s (σ .target) (σ .lastTarget), L .symmetric (σ .target) (σ .lastTarget));
+  keys = λ s l q. omega (arith, R .keys s l q, L .triangle s (σ .target) (σ .goal), L .symmetric (σ .target) (σ .goal));
 }
 
 -- ---- a new hunter
@@ -146,8 +146,8 @@ module _ {H : Hunt} {T : Tables} {new : ℕ} (L : Stands H) (z : Sized (H .graph
 
 -- What a search of T starts from: right tables at the placed cells, no number more than one cost above the last search's bound, nor above the greatest finite number of T.
 pub record Ready (G : Graph) (σ : Session) (T : Tables) (s : State) : Type 0 where
-  pub hunter : s .session .lastHunter ≡ σ .hunter
-  pub target : s .session .lastTarget ≡ σ .target
+  pub hunter : s .session .origin ≡ σ .hunter
+  pub target : s .session .goal ≡ σ .target
   pub placed-hunter : s .session .hunter ≡ σ .hunter
   pub placed-target : s .session .target ≡ σ .target
   pub searches-lt : s .session .searches < mostSearches
@@ -160,7 +160,7 @@ pub record Ready (G : Graph) (σ : Session) (T : Tables) (s : State) : Type 0 wh
 module _ {G : Graph} (L : GraphLaws G) {σ : Session} {T : Tables} (S : Sound G σ T) where
   -- the last search's hunter has a finite rhs, so every number of T that counts is within
   within-here : {most : ℕ} → FiniteUpTo (G .cells) most T → Bound (huntOf G (targetTaken G σ)) most T
-  within-here F = record { g = λ s l. finite-le (F .g s l); hunter = finite-le (F .rhs (σ .lastHunter) (S .last-hunter-in)) (S .hunter-finite) }
+  within-here F = record { g = λ s l. finite-le (F .g s l); hunter = finite-le (F .rhs (σ .origin) (S .origin-in)) (S .hunter-finite) }
 
   ready-fresh : Ready G σ T (freshStart G (σ .hunter) (σ .target))
   ready-fresh =
@@ -178,37 +178,37 @@ module _ {G : Graph} (L : GraphLaws G) {σ : Session} {T : Tables} (S : Sound G 
         within = λ most F. bound-more (omega arith) b;
       }
 
-  ready-target : σ .searches ≢ mostSearches → σ .hunter ≡ σ .lastHunter → Ready G σ T (record { session = targetTaken G σ; tables = T })
+  ready-target : σ .searches ≢ mostSearches → σ .hunter ≡ σ .origin → Ready G σ T (record { session = targetTaken G σ; tables = T })
   ready-target n e = record {
     hunter = sym e;
     target = refl;
     placed-hunter = refl;
     placed-target = refl;
     searches-lt = omega (arith, n, S .searches-le);
-    km-le = omega (arith, S .km-le, L .estimate-le (σ .lastTarget) (σ .target) (S .last-target-in) (S .target-in));
+    km-le = omega (arith, S .km-le, L .estimate-le (σ .goal) (σ .target) (S .goal-in) (S .target-in));
     sized = S .sized;
     right = target-right L σ (sound-right S);
     bound = record { g = λ s l f. omega (arith, sound-bound S .g s l f); hunter = omega (arith, S .hunter-le) };
     within = λ most F. within-here F;
   }
 
-  ready-hunter : σ .searches ≢ mostSearches → σ .hunter ≢ σ .lastHunter → rhsAt T (σ .hunter) ≢ infinite
-      → Ready G σ T (record { session = hunterTaken (targetTaken G σ); tables = handedOver (huntOf G (hunterTaken (targetTaken G σ))) T (σ .lastHunter) })
+  ready-hunter : σ .searches ≢ mostSearches → σ .hunter ≢ σ .origin → rhsAt T (σ .hunter) ≢ infinite
+      → Ready G σ T (record { session = hunterTaken (targetTaken G σ); tables = handedOver (huntOf G (hunterTaken (targetTaken G σ))) T (σ .origin) })
   ready-hunter n ne nf = record {
     hunter = refl;
     target = refl;
     placed-hunter = refl;
     placed-target = refl;
     searches-lt = omega (arith, n, S .searches-le);
-    km-le = omega (arith, S .km-le, L .estimate-le (σ .lastTarget) (σ .target) (S .last-target-in) (S .target-in));
-    sized = handedOver-sized (S .sized) (huntOf G (hunterTaken (targetTaken G σ))) (σ .lastHunter);
+    km-le = omega (arith, S .km-le, L .estimate-le (σ .goal) (σ .target) (S .goal-in) (S .target-in));
+    sized = handedOver-sized (S .sized) (huntOf G (hunterTaken (targetTaken G σ))) (σ .origin);
     right = handed-right L′ (S .sized) R (S .hunter-in) ne fin;
     bound = handed-bound L′ (S .sized) R (S .hunter-in) ne fin (record { g = sound-bound S .g; hunter = S .hunter-le });
     within = λ most F. handed-within L′ (S .sized) R (S .hunter-in) ne fin (within-here F) (finite-le (F .rhs (σ .hunter) (S .hunter-in)) fin);
   }
     where
       L′ : Stands (huntOf G (targetTaken G σ))
-      L′ = record { laws = L; hunter-in = S .last-hunter-in; target-in = S .target-in }
+      L′ = record { laws = L; hunter-in = S .origin-in; target-in = S .target-in }
 
       R : Right (huntOf G (targetTaken G σ)) T
       R = target-right L σ (sound-right S)
@@ -228,7 +228,7 @@ unfolding takenOver
 takenOver-sized G σ z =
     choose-is Q _ (λ _. fresh-sized G (σ .hunter) (σ .target))
     (λ _. choose-is Q _ (λ _. z)
-    (λ _. choose-is Q _ (λ _. fresh-sized G (σ .hunter) (σ .target)) (λ _. handedOver-sized z (huntOf G (hunterTaken (targetTaken G σ))) (σ .lastHunter))))
+    (λ _. choose-is Q _ (λ _. fresh-sized G (σ .hunter) (σ .target)) (λ _. handedOver-sized z (huntOf G (hunterTaken (targetTaken G σ))) (σ .origin))))
   where
     Q : State → Type 0
     Q s = Sized (G .cells) (s .tables)

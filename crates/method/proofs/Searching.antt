@@ -92,8 +92,8 @@ module _ {G : Graph} (L : GraphLaws G) {σ : Session} {T : Tables} (S : Sound G 
       (record {
         hunter-in = omega (arith, ready-here .placed-hunter, S .hunter-in);
         target-in = omega (arith, ready-here .placed-target, S .target-in);
-        last-hunter-in = stands .hunter-in;
-        last-target-in = stands .target-in;
+        origin-in = stands .hunter-in;
+        goal-in = stands .target-in;
         searches-le = ready-here .searches-lt;
         km-le = ready-here .km-le;
       })
@@ -121,7 +121,7 @@ module _ {G : Graph} (L : GraphLaws G) {σ : Session} {T : Tables} (S : Sound G 
   pub searched-right : RightAnswer G (σ .hunter) (σ .target) (length (searchedFrom G (takenOver G σ T) .steps)) (searchedFrom G (takenOver G σ T) .answer)
   searched-right =
       subst (λ h. Q h (σ .target)) (ready-here .hunter)
-      (subst (λ t. Q (takenOver G σ T .session .lastHunter) t) (ready-here .target)
+      (subst (λ t. Q (takenOver G σ T .session .origin) t) (ready-here .target)
       (answer-right (runTaken G σ T (3 * G .cells)) (went-to (3 * G .cells) .during) (went-to (3 * G .cells) .stopped ended) ended))
     where
       Q : ℕ → ℕ → Type 0

@@ -20,7 +20,7 @@ use Rattle.method.proofs.Entries.{key-finite, Reset}
 
 module _ {G : Graph} {σ : Session} {T : Tables} (S : Sound G σ T) where
   pub sound-stands : GraphLaws G → Stands (huntOf G σ)
-  sound-stands L = record { laws = L; hunter-in = S .last-hunter-in; target-in = S .last-target-in }
+  sound-stands L = record { laws = L; hunter-in = S .origin-in; target-in = S .goal-in }
 
   pub sound-right : Right (huntOf G σ) T
   sound-right = record {
@@ -29,7 +29,7 @@ module _ {G : Graph} {σ : Session} {T : Tables} (S : Sound G σ T) where
     hunter-parent = S .hunter-parent;
     least = S .least;
     queue = λ s l. record { in-queue = S .in-queue s l; not-in-queue = S .not-in-queue s l; idle = λ e. omega (arith, S .absent s l (S .not-in-queue s l e)) };
-    keys = λ s l n. omega (arith, S .keys s l (S .in-queue s l n), key-finite (huntOf G σ) T s (g-le s l) (rhs-at s l (ℕ-discrete s (σ .lastHunter))) n);
+    keys = λ s l n. omega (arith, S .keys s l (S .in-queue s l n), key-finite (huntOf G σ) T s (g-le s l) (rhs-at s l (ℕ-discrete s (σ .origin))) n);
   }
     where
       g-le : (s : ℕ) → s < G .cells → gAt T s ≤ infinite
@@ -39,7 +39,7 @@ module _ {G : Graph} {σ : Session} {T : Tables} (S : Sound G σ T) where
           at (inl e) = omega arith
           at (inr h) = omega (arith, S .searches-le)
 
-      rhs-at : (s : ℕ) → s < G .cells → Dec (s ≡ σ .lastHunter) → rhsAt T s ≤ infinite
+      rhs-at : (s : ℕ) → s < G .cells → Dec (s ≡ σ .origin) → rhsAt T s ≤ infinite
       rhs-at s l (yes e) = rw e (omega (arith, S .hunter-finite))
       rhs-at s l (no n) = S .least s l n .le-inf
 
@@ -50,8 +50,8 @@ module _ {G : Graph} {σ : Session} {T : Tables} (S : Sound G σ T) where
 pub record Within (G : Graph) (σ : Session) : Type 0 where
   pub hunter-in : σ .hunter < G .cells
   pub target-in : σ .target < G .cells
-  pub last-hunter-in : σ .lastHunter < G .cells
-  pub last-target-in : σ .lastTarget < G .cells
+  pub origin-in : σ .origin < G .cells
+  pub goal-in : σ .goal < G .cells
   pub searches-le : σ .searches ≤ mostSearches
   pub km-le : σ .km ≤ mostEstimate * σ .searches
 
@@ -61,8 +61,8 @@ right-sound {G} {σ} {T} W z R b = record {
   sized = z;
   hunter-in = W .hunter-in;
   target-in = W .target-in;
-  last-hunter-in = W .last-hunter-in;
-  last-target-in = W .last-target-in;
+  origin-in = W .origin-in;
+  goal-in = W .goal-in;
   hunter-finite = R .hunter-finite;
   hunter-parent = R .hunter-parent;
   least = R .least;

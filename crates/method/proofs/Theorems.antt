@@ -70,7 +70,7 @@ module _ {G : Graph} (L : GraphLaws G) {σ : Session} {T : Tables} (S : Sound G 
       → cost ≡ rhsAt (search G σ T .tables) (σ .target) - rhsAt (search G σ T .tables) (σ .hunter)
   cost-shown cost steps cells =
       of-search G σ T (λ o. o .answer ≡ way cost steps cells → cost ≡ rhsAt (o .tables) (σ .target) - rhsAt (o .tables) (σ .hunter)) (λ _ e. differ cc)
-      (λ _ e. answer-cost (huntTaken G σ T) r e ∙ ap (λ t. rhsAt (r .tables) t - rhsAt (r .tables) (takenOver G σ T .session .lastHunter)) (ready L S .target)
+      (λ _ e. answer-cost (huntTaken G σ T) r e ∙ ap (λ t. rhsAt (r .tables) t - rhsAt (r .tables) (takenOver G σ T .session .origin)) (ready L S .target)
       ∙ ap (λ h. rhsAt (r .tables) (σ .target) - rhsAt (r .tables) h) (ready L S .hunter))
     where
       r : Ran
@@ -119,8 +119,8 @@ module _ {G : Graph} {σ : Session} {T : Tables} (S : Sound G σ T) (s : ℕ) (l
       (record {
         hunter-in = l;
         target-in = S .target-in;
-        last-hunter-in = S .last-hunter-in;
-        last-target-in = S .last-target-in;
+        origin-in = S .origin-in;
+        goal-in = S .goal-in;
         searches-le = S .searches-le;
         km-le = S .km-le;
       })
@@ -132,8 +132,8 @@ module _ {G : Graph} {σ : Session} {T : Tables} (S : Sound G σ T) (s : ℕ) (l
       (record {
         hunter-in = S .hunter-in;
         target-in = l;
-        last-hunter-in = S .last-hunter-in;
-        last-target-in = S .last-target-in;
+        origin-in = S .origin-in;
+        goal-in = S .goal-in;
         searches-le = S .searches-le;
         km-le = S .km-le;
       })
@@ -142,7 +142,7 @@ module _ {G : Graph} {σ : Session} {T : Tables} (S : Sound G σ T) (s : ℕ) (l
 -- After opening.
 pub open-sound : {G : Graph} → GraphLaws G → (hunter target : ℕ) → hunter < G .cells → target < G .cells → Sound G (opened hunter target) (fresh G hunter target)
 open-sound {G} L hunter target lh lt =
-    right-sound (record { hunter-in = lh; target-in = lt; last-hunter-in = lh; last-target-in = lt; searches-le = omega arith; km-le = omega arith })
+    right-sound (record { hunter-in = lh; target-in = lt; origin-in = lh; goal-in = lt; searches-le = omega arith; km-le = omega arith })
     (fresh-sized G hunter target) (fresh-right L lh) (fresh-bound L lh)
 
 -- After a change of a move, on the graph as it then is.
@@ -153,8 +153,8 @@ move-changed-sound {G} {G′} {σ} {T} {v} {k} {u} {old} {new} A S lv =
     (record {
       hunter-in = omega (arith, S .hunter-in, A .cells);
       target-in = omega (arith, S .target-in, A .cells);
-      last-hunter-in = omega (arith, S .last-hunter-in, A .cells);
-      last-target-in = omega (arith, S .last-target-in, A .cells);
+      origin-in = omega (arith, S .origin-in, A .cells);
+      goal-in = omega (arith, S .goal-in, A .cells);
       searches-le = S .searches-le;
       km-le = S .km-le;
     })
@@ -186,7 +186,7 @@ module _ {G : Graph} (L : GraphLaws G) {σ : Session} {T : Tables} (S : Sound G 
       or-infinite (rhsAt T s) (λ n. rhs-bound (sound-stands S L) (sound-right S) (sound-bound S) s l (omega (arith, n, rhs-le (huntOf G σ) T (sound-right S) s l)))
 
   -- the first key number of a cell with a finite lesser number;
-  pub key-below : (s : ℕ) → s < G .cells → lesser T s < infinite → lesser T s + G .estimate s (σ .lastTarget) + σ .km < infinite
+  pub key-below : (s : ℕ) → s < G .cells → lesser T s < infinite → lesser T s + G .estimate s (σ .goal) + σ .km < infinite
   key-below s l f = key-fits (sound-during L S) s l f
 
   -- both numbers of a queued cell's calculated key, and the first of its stored key.
@@ -194,7 +194,7 @@ module _ {G : Graph} (L : GraphLaws G) {σ : Session} {T : Tables} (S : Sound G 
   queued-below s l q =
       let n : Inconsistent T s = λ e. true≢false (sym q ∙ S .not-in-queue s l e) in
       let f : lesser T s < infinite = lesser-finite (sound-during L S) s l n in
-      let h : lesser T s + G .estimate s (σ .lastTarget) + σ .km < infinite = key-below s l f in
+      let h : lesser T s + G .estimate s (σ .goal) + σ .km < infinite = key-below s l f in
       (omega (arith, first-finite (huntOf G σ) s (lesser T s) f), f, omega (arith, sound-right S .keys s l n))
 
   -- So no number of sound tables is lost at the end of its width.

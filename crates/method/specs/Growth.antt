@@ -16,7 +16,7 @@ pub record NumbersFit (G : Graph) (σ : Session) (T : Tables) : Type 0 where
   -- rhs: at most 1,024,250,250
   pub rhs : (s : ℕ) → s < G .cells → (rhsAt T s ≡ infinite) ⊎ (rhsAt T s ≤ growth * mostSearches + mostCost)
   -- the first number of the calculated key: the lesser of g and rhs, an estimate and km
-  pub key : (s : ℕ) → s < G .cells → (lesser T s ≡ infinite) ⊎ (lesser T s + G .estimate s (σ .lastTarget) + σ .km < infinite)
+  pub key : (s : ℕ) → s < G .cells → (lesser T s ≡ infinite) ⊎ (lesser T s + G .estimate s (σ .goal) + σ .km < infinite)
   -- the first number of a stored key
   pub stored : (s : ℕ) → s < G .cells → queuedAt T s ≡ true → getD (T .k1) s 0 < infinite
   -- km and one more estimate; the search number

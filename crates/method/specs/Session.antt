@@ -10,18 +10,18 @@ use Rattle.method.specs.Graph.{Move, Graph, Hunt}
 use Rattle.method.specs.Tables.{Tables, gAt, rhsAt, parentAt, withRhs, setRight, foundAnew}
 use Rattle.method.specs.Loop.{Step, Ran, run}
 
--- "the hunter and target as placed, the hunter and target of the last search, km, and the number of searches since the last fresh start"
+-- "the hunter and target as placed, the hunter and target of the last search" (origin and goal), "km, and the number of searches since the last fresh start"
 pub record Session : Type 0 where
   pub hunter : ℕ
   pub target : ℕ
-  pub lastHunter : ℕ
-  pub lastTarget : ℕ
+  pub origin : ℕ
+  pub goal : ℕ
   pub km : ℕ
   pub searches : ℕ
 
 -- What the last search taken over goes by.
 abbrev pub huntOf : Graph → Session → Hunt
-huntOf G σ = record { graph = G; hunter = σ .lastHunter; target = σ .lastTarget; km = σ .km }
+huntOf G σ = record { graph = G; hunter = σ .origin; target = σ .goal; km = σ .km }
 
 pub record State : Type 0 where
   pub session : Session
@@ -29,7 +29,7 @@ pub record State : Type 0 where
 
 -- Open: "km and search number 0; the cells given stand as placed and as the last search's"
 abbrev pub opened : ℕ → ℕ → Session
-opened hunter target = record { hunter = hunter; target = target; lastHunter = hunter; lastTarget = target; km = 0; searches = 0 }
+opened hunter target = record { hunter = hunter; target = target; origin = hunter; goal = target; km = 0; searches = 0 }
 
 -- "g and rhs infinite, parent 0", nothing queued
 unfoldable pub blank : ℕ → Tables
@@ -44,10 +44,10 @@ freshStart G hunter target = record { session = opened hunter target; tables = f
 
 -- "Place hunter, place target: change one field of the record."
 abbrev pub hunterPlaced : Session → ℕ → Session
-hunterPlaced σ s = record { hunter = s; target = σ .target; lastHunter = σ .lastHunter; lastTarget = σ .lastTarget; km = σ .km; searches = σ .searches }
+hunterPlaced σ s = record { hunter = s; target = σ .target; origin = σ .origin; goal = σ .goal; km = σ .km; searches = σ .searches }
 
 abbrev pub targetPlaced : Session → ℕ → Session
-targetPlaced σ s = record { hunter = σ .hunter; target = s; lastHunter = σ .lastHunter; lastTarget = σ .lastTarget; km = σ .km; searches = σ .searches }
+targetPlaced σ s = record { hunter = σ .hunter; target = s; origin = σ .origin; goal = σ .goal; km = σ .km; searches = σ .searches }
 
 -- Change a move from u into v, which gives v the parent code k, from the number `old` to `new`; H has the graph after the change.
 -- A shut move's number is above every cost. "If it falls: where the cell v entered is not the search's hunter and g(u) + cost < rhs(v),
@@ -64,10 +64,10 @@ moveChanged H T v k u old new =
 
 -- "take over the target: km grows by the estimate between old and new target"
 abbrev pub targetTaken : Graph → Session → Session
-targetTaken G σ = record { hunter = σ .hunter; target = σ .target; lastHunter = σ .lastHunter; lastTarget = σ .target; km = σ .km + G .estimate (σ .lastTarget) (σ .target); searches = σ .searches }
+targetTaken G σ = record { hunter = σ .hunter; target = σ .target; origin = σ .origin; goal = σ .target; km = σ .km + G .estimate (σ .goal) (σ .target); searches = σ .searches }
 
 abbrev pub hunterTaken : Session → Session
-hunterTaken σ = record { hunter = σ .hunter; target = σ .target; lastHunter = σ .hunter; lastTarget = σ .lastTarget; km = σ .km; searches = σ .searches }
+hunterTaken σ = record { hunter = σ .hunter; target = σ .target; origin = σ .hunter; goal = σ .goal; km = σ .km; searches = σ .searches }
 
 -- The new hunter's "rhs is kept, its parent becomes 0, and the old hunter's rhs, parent and queue entry are found anew"
 unfoldable pub handedOver : Hunt → Tables → ℕ → Tables
@@ -78,16 +78,16 @@ handedOver H T old =
 unfoldable pub takenOver : Graph → Session → Tables → State
 takenOver G σ T =
     choose (ℕ-discrete (σ .searches) mostSearches) (freshStart G (σ .hunter) (σ .target))
-    (choose (ℕ-discrete (σ .hunter) (σ .lastHunter)) (record { session = targetTaken G σ; tables = T })
+    (choose (ℕ-discrete (σ .hunter) (σ .origin)) (record { session = targetTaken G σ; tables = T })
     (choose (ℕ-discrete (rhsAt T (σ .hunter)) infinite) (freshStart G (σ .hunter) (σ .target))
     (record {
       session = hunterTaken (targetTaken G σ);
-      tables = handedOver (huntOf G (hunterTaken (targetTaken G σ))) T (σ .lastHunter);
+      tables = handedOver (huntOf G (hunterTaken (targetTaken G σ))) T (σ .origin);
     })))
 
 -- "The search number grows by 1."
 abbrev pub counted : Session → Session
-counted σ = record { hunter = σ .hunter; target = σ .target; lastHunter = σ .lastHunter; lastTarget = σ .lastTarget; km = σ .km; searches = suc (σ .searches) }
+counted σ = record { hunter = σ .hunter; target = σ .target; origin = σ .origin; goal = σ .goal; km = σ .km; searches = suc (σ .searches) }
 
 -- The cell that a parent code names.
 unfoldable pub parentCell : List Move → ℕ → ℕ

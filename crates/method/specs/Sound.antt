@@ -15,13 +15,13 @@ pub record Sound (G : Graph) (σ : Session) (T : Tables) : Type 0 where
   -- "the recorded cells are in the plan"
   pub hunter-in : σ .hunter < G .cells
   pub target-in : σ .target < G .cells
-  pub last-hunter-in : σ .lastHunter < G .cells
-  pub last-target-in : σ .lastTarget < G .cells
+  pub origin-in : σ .origin < G .cells
+  pub goal-in : σ .goal < G .cells
   -- "rhs of the search's hunter is finite and its parent 0"
-  pub hunter-finite : rhsAt T (σ .lastHunter) < infinite
-  pub hunter-parent : parentAt T (σ .lastHunter) ≡ 0
+  pub hunter-finite : rhsAt T (σ .origin) < infinite
+  pub hunter-parent : parentAt T (σ .origin) ≡ 0
   -- "each other cell's rhs is the least g + cost .., and its parent is a neighbour that gives this least sum, 0 exactly if infinite"
-  pub least : (s : ℕ) → s < G .cells → s ≢ σ .lastHunter → Least G (λ w. gAt T w) s (rhsAt T s) (parentAt T s)
+  pub least : (s : ℕ) → s < G .cells → s ≢ σ .origin → Least G (λ w. gAt T w) s (rhsAt T s) (parentAt T s)
   -- "the queue holds exactly the cells with g ≠ rhs"
   pub in-queue : (s : ℕ) → s < G .cells → gAt T s ≢ rhsAt T s → queuedAt T s ≡ true
   pub not-in-queue : (s : ℕ) → s < G .cells → gAt T s ≡ rhsAt T s → queuedAt T s ≡ false
@@ -33,4 +33,4 @@ pub record Sound (G : Graph) (σ : Session) (T : Tables) : Type 0 where
   pub searches-le : σ .searches ≤ mostSearches
   pub km-le : σ .km ≤ mostEstimate * σ .searches
   pub g-le : (s : ℕ) → s < G .cells → (gAt T s ≡ infinite) ⊎ (gAt T s ≤ growth * σ .searches)
-  pub hunter-le : rhsAt T (σ .lastHunter) ≤ growth * σ .searches
+  pub hunter-le : rhsAt T (σ .origin) ≤ growth * σ .searches

@@ -73,7 +73,7 @@ module _ {s : Session} {t : Tables} (S : Sound s t) (e : s .hunter ≡ s .target
 
 -- What the search goes by after the take-over, in the method's session σ.
 abbrev aimBy : ℕ → ℕ → calls.Session → ℕ → ℕ → Aim
-aimBy width height σ row column = record { width = width; height = height; hunter = σ .lastHunter; target = σ .lastTarget; row = row; column = column; km = σ .km }
+aimBy width height σ row column = record { width = width; height = height; hunter = σ .origin; target = σ .goal; row = row; column = column; km = σ .km }
 
 -- The record that a search leaves: so many cells queued, so many searches.
 abbrev pub leftBy : Session → ℕ → ℕ → Session
@@ -117,9 +117,9 @@ module _ {s : Session} {t : Tables} (S : Sound s t) where
           km-le = omega (arith, R .km-le, R .searches-lt);
         })
       where
-        stands : Rattle.plan.specs.Cells.Stands (s .width) (taken .session .lastTarget) (a .row) (a .column)
-        stands = subst (λ w. Rattle.plan.specs.Cells.Stands w (taken .session .lastTarget) (a .row) (a .column)) (H .wide)
-            (subst (λ x. Rattle.plan.specs.Cells.Stands (r .width) x (a .row) (a .column)) (ap (λ σ. σ .lastTarget) (H .record-is)) (O .target-at))
+        stands : Rattle.plan.specs.Cells.Stands (s .width) (taken .session .goal) (a .row) (a .column)
+        stands = subst (λ w. Rattle.plan.specs.Cells.Stands w (taken .session .goal) (a .row) (a .column)) (H .wide)
+            (subst (λ x. Rattle.plan.specs.Cells.Stands (r .width) x (a .row) (a .column)) (ap (λ σ. σ .goal) (H .record-is)) (O .target-at))
 
     pub run-started : Started a (r .count) (tables (t .plan) g₁ rhs₁ parent₁ k1₁ k2₁ place₁ list₁)
     run-started =

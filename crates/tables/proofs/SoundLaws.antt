@@ -130,8 +130,8 @@ module _ (s : Session) (t : Tables) (z : Size (s .width) (s .height)) (fit : Fit
         sized = record { g = fit .g; rhs = fit .rhs; parent = fit .parent; k1 = fit .k1; k2 = fit .k2; queued = length-members (t .place) ∙ fit .place };
         hunter-in = N .hunter;
         target-in = N .target;
-        last-hunter-in = N .origin;
-        last-target-in = N .goal;
+        origin-in = N .origin;
+        goal-in = N .goal;
         hunter-finite = omega (arith, hunter .0, N .searches);
         hunter-parent = hunter .1;
         least = least;
@@ -164,8 +164,8 @@ module _ (s : Session) (t : Tables) (z : Size (s .width) (s .height)) (fit : Fit
     numbers-rule = record {
       hunter = S .numbers .hunter-in;
       target = S .numbers .target-in;
-      origin = S .numbers .last-hunter-in;
-      goal = S .numbers .last-target-in;
+      origin = S .numbers .origin-in;
+      goal = S .numbers .goal-in;
       count = S .heap .tables .agree .fits;
       searches = S .numbers .searches-le;
       km = S .numbers .km-le;

@@ -74,8 +74,8 @@ abbrev pub session : Session → method-session.Session
 session s = record {
   hunter = s .hunter;
   target = s .target;
-  lastHunter = s .origin;
-  lastTarget = s .goal;
+  origin = s .origin;
+  goal = s .goal;
   km = s .km;
   searches = s .searches;
 }

@@ -108,7 +108,7 @@ module _ {s : Session} {t : Tables} (S : Sound s t) where
   openable = record { fits = sound-fits S; hunter-in = S .numbers .hunter-in; target-in = S .numbers .target-in; obeys = S .plan }
 
   pub aiming : Aiming s
-  aiming = record { size = S .plan .size; old-in = S .numbers .last-target-in; new-in = S .numbers .target-in; km-le = omega (arith, S .numbers .km-le, S .numbers .searches-le) }
+  aiming = record { size = S .plan .size; old-in = S .numbers .goal-in; new-in = S .numbers .target-in; km-le = omega (arith, S .numbers .km-le, S .numbers .searches-le) }
 
   pub handing : {r : Session} → r ≡ aimedAnew s → Handing r t
   handing e =
@@ -116,9 +116,9 @@ module _ {s : Session} {t : Tables} (S : Sound s t) where
       (record {
         obeys = S .plan;
         new-in = S .numbers .hunter-in;
-        old-in = S .numbers .last-hunter-in;
+        old-in = S .numbers .origin-in;
         goal-in = S .numbers .target-in;
-        km-le = omega (arith, S .numbers .km-le, S .numbers .searches-le, estimate-le (S .plan .size) (s .goal) (s .target) (S .numbers .last-target-in) (S .numbers .target-in));
+        km-le = omega (arith, S .numbers .km-le, S .numbers .searches-le, estimate-le (S .plan .size) (s .goal) (s .target) (S .numbers .goal-in) (S .numbers .target-in));
         sized = S .numbers .sized;
         heap = S .heap;
         small-g = sound-small-g S;
