@@ -12,8 +12,9 @@ use Rattle.method.specs.Graph.{Move, move, Graph, Comes, GraphLaws, Hunt
 use Rattle.method.specs.Tables.{Tables, gAt, rhsAt, parentAt, storedKey}
 use Rattle.method.specs.Session.{parentCell, wayFrom}
 use Rattle.method.specs.Walk.{Chain, stay, go, NoChain, Cheapest}
-use Rattle.method.proofs.Counting.{lack, lack-le, lack-no, lack-keep, lack-gain, sum, sum-bound, sum-drop}
-use Rattle.method.proofs.Notions.{Stands, keyAt, key, Inconsistent, ReachedAt, Right}
+use Rattle.method.specs.During.{Stands, keyAt, key, Inconsistent, Right, lack, sum}
+use Rattle.method.proofs.Counting.{lack-le, lack-no, lack-keep, lack-gain, sum-bound, sum-drop}
+use Rattle.method.proofs.Notions.{ReachedAt}
 
 -- The loop has stopped: rhs of the target is not above its g, and no stored key is below the target's finite key.
 pub record Stopped (H : Hunt) (T : Tables) : Type 0 where

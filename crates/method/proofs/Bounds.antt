@@ -1,4 +1,4 @@
--- How large the numbers grow: what holds between the steps of a search.
+-- How large the numbers grow, and that every step keeps what holds between the steps of a search.
 use mathlib.Core.Path.{_≡_, refl}
 use mathlib.Core.Logic.{_⊎_, inl, inr, _≢_}
 use Prim.Native.Nat.{ℕ, _+_, _*_, _≤_, _<_}
@@ -8,14 +8,10 @@ use Rattle.method.specs.Numbers.{infinite, mostCost, mostEstimate}
 use Rattle.method.specs.Graph.{Hunt}
 use Rattle.method.specs.Tables.{Tables, Sized, gAt, rhsAt, parentAt, storedKey, lesser}
 use Rattle.method.specs.Steps.{Kind, lower}
-use Rattle.method.proofs.Notions.{Stands, Inconsistent, ReachedAt, Right, Pick, Did, did-put-back, did-lower, did-raise}
-use Rattle.method.proofs.Facts.{Due, Floor, rhs-le, floor-keep, lacking, lacking-le, lacking-keep, lacking-drop}
+use Rattle.method.specs.During.{Stands, Inconsistent, Right, Bound, most, During}
+use Rattle.method.proofs.Notions.{ReachedAt, Pick, Did, did-put-back, did-lower, did-raise}
+use Rattle.method.proofs.Facts.{Due, rhs-le, floor-keep, lacking, lacking-lower, lacking-le, lacking-keep, lacking-drop}
 use Rattle.method.proofs.Keeping.{keep, lower-hunter, raise-hunter}
-
--- Every finite g, and rhs of the hunter, is at most B.
-pub record Bound (H : Hunt) (B : ℕ) (T : Tables) : Type 0 where
-  pub g : (s : ℕ) → s < H .graph .cells → gAt T s < infinite → gAt T s ≤ B
-  pub hunter : rhsAt T (H .hunter) ≤ B
 
 -- A finite number is within its bound.
 pub finite-le : {n B : ℕ} → (n ≡ infinite) ⊎ (n ≤ B) → n < infinite → n ≤ B
@@ -52,22 +48,6 @@ rhs-bound {H} {B} {T} L R b s l fin = at (ℕ-discrete s (H .hunter))
     at (yes q) = rw q (omega (arith, b .hunter))
     at (no n) = via (R .least s l n .reached)
 
--- What no number of a search passes whose tables were within A at its start: every cell lowered, and one cost.
-abbrev pub most : Hunt → ℕ → ℕ
-most H A = A + mostCost * H .graph .cells + mostCost
-
--- What holds between the steps of a search. A bounds the numbers at its start, `last` is the key taken last.
-pub record During (H : Hunt) (A : ℕ) (T : Tables) : Type 0 where
-  pub stands : Stands H
-  pub fits : most H A + mostCost + mostEstimate + H .km < infinite
-  pub sized : Sized (H .graph .cells) T
-  pub right : Right H T
-  pub last : ℕ
-  pub floor : Floor H last T
-  pub B : ℕ
-  pub bound : Bound H B T
-  pub room : B + mostCost * lacking lower H last T ≤ A + mostCost * H .graph .cells
-
 -- What holds at the start of a search whose numbers are within A.
 pub starts : {H : Hunt} {A : ℕ} {T : Tables} → Stands H → most H A + mostCost + mostEstimate + H .km < infinite → Sized (H .graph .cells) T → Right H T → Bound H A T
     → During H A T
@@ -80,7 +60,7 @@ starts {H} {A} {T} L fits z R b = record {
   floor = λ s l q. omega arith;
   B = A;
   bound = b;
-  room = omega (arith, lacking-le lower H 0 T);
+  room = omega (arith, lacking-lower H 0 T, lacking-le lower H 0 T);
 }
 
 module _ {H : Hunt} {A : ℕ} {T : Tables} (D : During H A T) where
@@ -99,7 +79,7 @@ module _ {H : Hunt} {A : ℕ} {T : Tables} (D : During H A T) where
     floor = floor-keep (due P) d;
     B = B′;
     bound = b;
-    room = omega (arith, D .room);
+    room = omega (arith, D .room, lacking-lower H (D .last) T, lacking-lower H (storedKey T u) T′);
   }
 
   pub during-keep : {T′ : Tables} {u : ℕ} {k : Kind} → Pick H T u → Did H T T′ u k → Sized (H .graph .cells) T′ → During H A T′

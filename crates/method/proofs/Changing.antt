@@ -10,7 +10,7 @@ use Rattle.method.specs.Tables.{Tables, Sized, gAt, rhsAt, parentAt, Lea
 use Rattle.method.specs.Session.{Session, huntOf, moveChanged}
 use Rattle.method.specs.Sound.{Sound}
 use Rattle.method.specs.Change.{Altered}
-use Rattle.method.proofs.Notions.{LeastAt, Right}
+use Rattle.method.specs.During.{LeastAt, Right}
 use Rattle.method.proofs.Keeping.{Held, least-stays}
 use Rattle.method.proofs.LeastSums.{anew-least}
 use Rattle.method.proofs.Entries.{withRhs-sized, setRight-sized, foundAnew-sized, Reset, reset, anew-reset}

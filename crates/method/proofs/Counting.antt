@@ -3,11 +3,7 @@ use mathlib.Core.Path.{_≡_}
 use Prim.Native.Nat.{ℕ, zero, suc, _+_, _≤_, _<_}
 use native.Mathlib.Omega.{arith}
 use native.Mathlib.Decide.{ℕ-discrete}
-
--- 0 where P holds, 1 where it is lacking
-unfoldable pub lack : {P : Type 0} → Dec P → ℕ
-lack (yes p) = 0
-lack (no n) = 1
+use Rattle.method.specs.During.{lack, sum}
 
 module _ {P : Type 0} where
   pub lack-le : (d : Dec P) → lack d ≤ 1
@@ -32,10 +28,6 @@ module _ {P : Type 0} where
   lack-gain (yes p) e m q = absurd (m p)
   lack-gain (no m′) (yes q′) m q = omega arith
   lack-gain (no m′) (no n) m q = absurd (n q)
-
-unfoldable pub sum : ℕ → (ℕ → ℕ) → ℕ
-sum zero f = 0
-sum (suc n) f = sum n f + f n
 
 pub sum-bound : (n : ℕ) (f : ℕ → ℕ) → ((s : ℕ) → s < n → f s ≤ 1) → sum n f ≤ n
 unfolding sum

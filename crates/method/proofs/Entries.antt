@@ -11,7 +11,8 @@ use Rattle.decide.proofs.ChooseLaws.{choose-yes, choose-no, choose-is}
 use Rattle.method.specs.Numbers.{infinite}
 use Rattle.method.specs.Graph.{Hunt}
 use Rattle.method.specs.Tables.{Tables, Sized, gAt, rhsAt, parentAt, withG, withRhs, withEntry, lesser, firstKey, calculatedKey, enter, leave, setRight, anew, foundAnew}
-use Rattle.method.proofs.Notions.{key, Inconsistent, EntryRight, SameEntry, Same}
+use Rattle.method.specs.During.{key, Inconsistent}
+use Rattle.method.proofs.Notions.{EntryRight, SameEntry, Same}
 use Rattle.method.proofs.LeastSums.{anew-least}
 
 module _ {n : ℕ} {T : Tables} (z : Sized n T) where

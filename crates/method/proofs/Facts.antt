@@ -1,5 +1,5 @@
 -- Why no step comes twice: the keys taken never fall, and a step makes a fact about its cell true that every later step keeps.
-use mathlib.Core.Path.{_≡_, sym, _∙_}
+use mathlib.Core.Path.{_≡_, refl, sym, _∙_}
 use mathlib.Core.Logic.{_⊎_, inl, inr, _≢_}
 use Prim.Native.Nat.{ℕ, suc, _+_, _*_, _≤_, _<_}
 use native.Mathlib.Omega.{arith}
@@ -8,8 +8,9 @@ use Rattle.method.specs.Numbers.{infinite}
 use Rattle.method.specs.Graph.{Graph, Comes, GraphLaws, Hunt}
 use Rattle.method.specs.Tables.{Tables, gAt, rhsAt, parentAt, storedKey, Least}
 use Rattle.method.specs.Steps.{Kind, put-back, lower, raise}
-use Rattle.method.proofs.Counting.{lack, lack-le, lack-keep, lack-gain, sum, sum-bound, sum-keep, sum-drop}
-use Rattle.method.proofs.Notions.{Stands, keyAt, key, Inconsistent, Reached, ReachedAt, Right, Pick, Same, Lowered, Lower, Kept, Renewed, Raise, Did, did-put-back, did-lower, did-raise}
+use Rattle.method.specs.During.{Stands, key, Inconsistent, Right, Floor, Settled, dec-settled, lack, sum, unsettled}
+use Rattle.method.proofs.Counting.{lack-le, lack-keep, lack-gain, sum-bound, sum-keep, sum-drop}
+use Rattle.method.proofs.Notions.{Reached, ReachedAt, Pick, Same, Lowered, Lower, Kept, Renewed, Raise, Did, did-put-back, did-lower, did-raise}
 
 -- the parent's move gives the sum
 parent-sum : (H : Hunt) → Stands H → (T : Tables) → Right H T → (s u c : ℕ) → s < H .graph .cells → s ≢ H .hunter → Comes (H .graph) s (parentAt T s) u c
@@ -32,20 +33,12 @@ least-mono {G} L {g} {g′} {s} {r} {p} {r′} {p′} up A B = at (B .reached)
     at (inr v) =
         omega (arith, v .1 .sum, A .least p′ (v .1 .from) (v .1 .cost) (v .1 .comes), up (v .1 .from) (L .from-in s p′ (v .1 .from) (v .1 .cost) (v .1 .comes)))
 
--- consistent at a key not above κ
-abbrev pub Settled : Hunt → ℕ → Tables → ℕ → Type 0
-Settled H κ T s = (gAt T s ≡ rhsAt T s) × (keyAt H s (gAt T s) ≤ κ)
-
 -- The fact that a step of a kind makes true of its cell. Lower: it is settled. Raise: settled, or g infinite.
 -- Put back: not queued, or queued under the calculated key.
 abbrev pub Fact : Kind → Hunt → ℕ → Tables → ℕ → Type 0
 Fact lower H κ T s = Settled H κ T s
 Fact raise H κ T s = Settled H κ T s ⊎ (gAt T s ≡ infinite)
 Fact put-back H κ T s = (gAt T s ≡ rhsAt T s) ⊎ (storedKey T s ≡ key H T s)
-
--- no queued cell has a stored key below κ
-abbrev pub Floor : Hunt → ℕ → Tables → Type 0
-Floor H κ T = (s : ℕ) → s < H .graph .cells → Inconsistent T s → κ ≤ storedKey T s
 
 -- A step on u is due: κ is the key taken last.
 pub record Due (H : Hunt) (κ : ℕ) (T : Tables) (u : ℕ) : Type 0 where
@@ -237,11 +230,6 @@ module _ {H : Hunt} {κ : ℕ} {T : Tables} {u : ℕ} (D : Due H κ T u) where
 
 -- ---- the cells that lack a fact, counted
 
-dec-× : {A B : Type 0} → Dec A → Dec B → Dec (A × B)
-dec-× (yes a) (yes b) = yes (a, b)
-dec-× (yes a) (no m) = no (λ d. m (d .1))
-dec-× (no n) e = no (λ d. n (d .0))
-
 dec-⊎ : {A B : Type 0} → Dec A → Dec B → Dec (A ⊎ B)
 dec-⊎ (yes a) e = yes (inl a)
 dec-⊎ (no n) (yes b) = yes (inr b)
@@ -251,9 +239,6 @@ dec-⊎ {A} {B} (no n) (no m) = no at
     at (inl a) = n a
     at (inr b) = m b
 
-dec-settled : (H : Hunt) (κ : ℕ) (T : Tables) (s : ℕ) → Dec (Settled H κ T s)
-dec-settled H κ T s = dec-× (ℕ-discrete (gAt T s) (rhsAt T s)) (decLe (keyAt H s (gAt T s)) κ)
-
 dec-fact : (k : Kind) (H : Hunt) (κ : ℕ) (T : Tables) (s : ℕ) → Dec (Fact k H κ T s)
 dec-fact lower H κ T s = dec-settled H κ T s
 dec-fact raise H κ T s = dec-⊎ (dec-settled H κ T s) (ℕ-discrete (gAt T s) infinite)
@@ -261,6 +246,11 @@ dec-fact put-back H κ T s = dec-⊎ (ℕ-discrete (gAt T s) (rhsAt T s)) (ℕ-d
 
 pub lacking : Kind → Hunt → ℕ → Tables → ℕ
 lacking k H κ T = sum (H .graph .cells) (λ s. lack (dec-fact k H κ T s))
+
+-- lower's fact is lacking where a cell is not settled
+pub lacking-lower : (H : Hunt) (κ : ℕ) (T : Tables) → lacking lower H κ T ≡ unsettled H κ T
+unfolding lacking unsettled dec-fact
+lacking-lower H κ T = refl
 
 pub lacking-le : (k : Kind) (H : Hunt) (κ : ℕ) (T : Tables) → lacking k H κ T ≤ H .graph .cells
 unfolding lacking

@@ -10,7 +10,8 @@ use Rattle.method.specs.Tables.{Tables}
 use Rattle.method.specs.Session.{Session, takenOver, search}
 use Rattle.method.specs.Sound.{Sound}
 use Rattle.method.specs.Growth.{FiniteUpTo}
-use Rattle.method.proofs.Bounds.{most, During, starts, g-most, rhs-most}
+use Rattle.method.specs.During.{most, During}
+use Rattle.method.proofs.Bounds.{starts, g-most, rhs-most}
 use Rattle.method.proofs.Readying.{ready}
 use Rattle.method.proofs.Running.{went}
 use Rattle.method.proofs.Searching.{huntTaken, boundTaken, runTaken, during-start, went-to, of-search}

@@ -1,36 +1,14 @@
--- What the proofs speak of: tables that are right for a hunt, and each kind of step as facts about every cell.
+-- What the proofs speak of: each kind of step as facts about every cell.
 use mathlib.Core.Path.{_≡_}
-use mathlib.Core.Bool.{true, false}
 use mathlib.Core.Logic.{_⊎_, _≢_}
 use Prim.Native.Nat.{ℕ, _+_, _≤_, _<_}
 use Rattle.method.specs.Numbers.{infinite}
-use Rattle.method.specs.Graph.{Graph, Comes, GraphLaws, Hunt}
-use Rattle.method.specs.Tables.{Tables, gAt, rhsAt, parentAt, queuedAt, keyNumber, storedKey, lesser, Via, Least}
+use Rattle.method.specs.Graph.{Graph, Comes, Hunt}
+use Rattle.method.specs.Tables.{Tables, gAt, rhsAt, parentAt, queuedAt, storedKey, Via}
 use Rattle.method.specs.Steps.{Kind, put-back, lower, raise}
+use Rattle.method.specs.During.{key, Inconsistent, QueueRight, LeastAt}
 
--- The graph obeys its laws, and hunter and target are cells of it.
-pub record Stands (H : Hunt) : Type 0 where
-  pub laws : GraphLaws (H .graph)
-  pub hunter-in : H .hunter < H .graph .cells
-  pub target-in : H .target < H .graph .cells
-
--- The calculated key of a cell with the finite lesser number m.
-abbrev pub keyAt : Hunt → ℕ → ℕ → ℕ
-keyAt H s m = keyNumber (m + H .graph .estimate s (H .target) + H .km) m
-
-abbrev pub key : Hunt → Tables → ℕ → ℕ
-key H T s = keyAt H s (lesser T s)
-
-abbrev pub Inconsistent : Tables → ℕ → Type 0
-Inconsistent T s = gAt T s ≢ rhsAt T s
-
--- The queue holds s exactly if g ≠ rhs; its key numbers are 0 if not.
-pub record QueueRight (T : Tables) (s : ℕ) : Type 0 where
-  pub in-queue : Inconsistent T s → queuedAt T s ≡ true
-  pub not-in-queue : gAt T s ≡ rhsAt T s → queuedAt T s ≡ false
-  pub idle : gAt T s ≡ rhsAt T s → storedKey T s ≡ 0
-
--- .. and under the calculated key: its entry has been set right.
+-- The queue is right at s, and holds it under the calculated key: its entry has been set right.
 pub record EntryRight (H : Hunt) (T : Tables) (s : ℕ) : Type 0 where
   pub queue : QueueRight T s
   pub full : Inconsistent T s → storedKey T s ≡ key H T s
@@ -39,21 +17,8 @@ pub record EntryRight (H : Hunt) (T : Tables) (s : ℕ) : Type 0 where
 abbrev pub Reached : Graph → (ℕ → ℕ) → ℕ → ℕ → ℕ → Type 0
 Reached G g s r p = ((r ≡ infinite) × (p ≡ 0)) ⊎ ((r < infinite) × Via G g s r p)
 
--- rhs and parent of s are the least over the moves into it.
-abbrev pub LeastAt : Graph → Tables → ℕ → Type 0
-LeastAt G T s = Least G (λ w. gAt T w) s (rhsAt T s) (parentAt T s)
-
 abbrev pub ReachedAt : Graph → Tables → ℕ → Type 0
 ReachedAt G T s = Reached G (λ w. gAt T w) s (rhsAt T s) (parentAt T s)
-
--- Soundness but for the sizes, the session and the bounds on numbers.
-pub record Right (H : Hunt) (T : Tables) : Type 0 where
-  pub g-le : (s : ℕ) → s < H .graph .cells → gAt T s ≤ infinite
-  pub hunter-finite : rhsAt T (H .hunter) < infinite
-  pub hunter-parent : parentAt T (H .hunter) ≡ 0
-  pub least : (s : ℕ) → s < H .graph .cells → s ≢ H .hunter → LeastAt (H .graph) T s
-  pub queue : (s : ℕ) → s < H .graph .cells → QueueRight T s
-  pub keys : (s : ℕ) → s < H .graph .cells → Inconsistent T s → storedKey T s ≤ key H T s
 
 -- u is a least queued cell; how ties are broken does not matter here.
 pub record Pick (H : Hunt) (T : Tables) (u : ℕ) : Type 0 where

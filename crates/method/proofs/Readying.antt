@@ -13,9 +13,9 @@ use Rattle.method.specs.Tables.{Tables, Sized, gAt, rhsAt, parentAt, que
 use Rattle.method.specs.Session.{Session, huntOf, State, opened, blank, fresh, freshStart, targetTaken, hunterTaken, handedOver, takenOver}
 use Rattle.method.specs.Sound.{Sound}
 use Rattle.method.specs.Growth.{FiniteUpTo}
-use Rattle.method.proofs.Notions.{Stands, Right}
+use Rattle.method.specs.During.{Stands, Right, Bound}
 use Rattle.method.proofs.Keeping.{Held, queue-same}
-use Rattle.method.proofs.Bounds.{Bound, finite-le, bound-more, rhs-bound}
+use Rattle.method.proofs.Bounds.{finite-le, bound-more, rhs-bound}
 use Rattle.method.proofs.LeastSums.{anew-least, least-cast}
 use Rattle.method.proofs.Entries.{withRhs-sized, setRight-sized, foundAnew-sized, Reset, reset, anew-reset}
 use Rattle.method.proofs.Soundness.{sound-right, sound-bound, reset-right}

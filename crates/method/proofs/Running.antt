@@ -15,10 +15,11 @@ use Rattle.method.specs.Steps.{kindOf, stepped}
 use Rattle.method.specs.Loop.{leastQueued, nextCell, Step, Ran, after, isNone, runOn, run}
 use Rattle.method.specs.Course.{Before, LeastCell, Continues}
 use Rattle.method.specs.Walk.{Once, none-yet, one-more}
-use Rattle.method.proofs.Notions.{Inconsistent, Pick, Did}
+use Rattle.method.specs.During.{Inconsistent, During}
+use Rattle.method.proofs.Notions.{Pick, Did}
 use Rattle.method.proofs.Facts.{Due, Fact, rhs-le, fact-keep, fact-gain, fact-new, toCome, toCome-drop}
 use Rattle.method.proofs.Answers.{Stopped}
-use Rattle.method.proofs.Bounds.{During, due, during-keep, during-last, lesser-finite, lesser-most}
+use Rattle.method.proofs.Bounds.{due, during-keep, during-last, lesser-finite, lesser-most}
 use Rattle.method.proofs.Entries.{first-finite, first-infinite}
 use Rattle.method.proofs.Stepping.{stepped-sized, step-is}
 use Rattle.method.proofs.Taking.{Named, least-is, next-is}

@@ -14,10 +14,10 @@ use Rattle.method.specs.Loop.{Ran, run}
 use Rattle.method.specs.Session.{Session, huntOf, takenOver, counted, Answer, caught, way, wayFrom, answerOf, Outcome, searchedFrom, search}
 use Rattle.method.specs.Sound.{Sound}
 use Rattle.method.specs.Walk.{RightAnswer, none-there, way-there}
-use Rattle.method.proofs.Notions.{Stands}
+use Rattle.method.specs.During.{Stands, During}
 use Rattle.method.proofs.Facts.{rhs-le, toCome, toCome-le}
 use Rattle.method.proofs.Answers.{Stopped, Room, no-chain, cheapest}
-use Rattle.method.proofs.Bounds.{During, starts, sum-fits}
+use Rattle.method.proofs.Bounds.{starts, sum-fits}
 use Rattle.method.proofs.Running.{Went, went}
 use Rattle.method.proofs.Soundness.{sound-stands, sound-right, sound-bound, right-sound}
 use Rattle.method.proofs.Readying.{Ready, ready}

@@ -11,10 +11,10 @@ use Rattle.method.specs.Graph.{Graph, GraphLaws, Hunt}
 use Rattle.method.specs.Tables.{Tables, Sized, gAt, rhsAt, parentAt, queuedAt, storedKey, calculatedKey, Least}
 use Rattle.method.specs.Session.{Session, huntOf}
 use Rattle.method.specs.Sound.{Sound}
-use Rattle.method.proofs.Notions.{Stands, Inconsistent, LeastAt, Right}
+use Rattle.method.specs.During.{Stands, Inconsistent, LeastAt, Right, Bound}
 use Rattle.method.proofs.Facts.{rhs-le}
 use Rattle.method.proofs.Keeping.{Held, held-right, held-same}
-use Rattle.method.proofs.Bounds.{Bound, finite-le, or-infinite}
+use Rattle.method.proofs.Bounds.{finite-le, or-infinite}
 use Rattle.method.proofs.LeastSums.{least-cast}
 use Rattle.method.proofs.Entries.{key-finite, Reset}
 

@@ -14,7 +14,8 @@ use Rattle.method.specs.Numbers.{infinite}
 use Rattle.method.specs.Graph.{Move, move, Hunt}
 use Rattle.method.specs.Tables.{Tables, Sized, gAt, rhsAt, parentAt, withG, withRhs, storedKey, calculatedKey, enter, leave, setRight, anew, foundAnew}
 use Rattle.method.specs.Steps.{relaxed, relaxedAll, lowered, renewed, renewedAll, raised, put-back, lower, raise, kindOf, stepped}
-use Rattle.method.proofs.Notions.{Stands, key, EntryRight, Right, Pick, Same, PutBack, Lowered, Lower, Kept, Renewed, Raise, Did, did-put-back, did-lower, did-raise}
+use Rattle.method.specs.During.{Stands, key, Right}
+use Rattle.method.proofs.Notions.{EntryRight, Pick, Same, PutBack, Lowered, Lower, Kept, Renewed, Raise, Did, did-put-back, did-lower, did-raise}
 use Rattle.method.proofs.Facts.{rhs-le}
 use Rattle.method.proofs.Keeping.{entry-same}
 use Rattle.method.proofs.LeastSums.{anew-least, least-cast}

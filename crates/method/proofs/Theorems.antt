@@ -20,7 +20,7 @@ use Rattle.method.specs.Sound.{Sound}
 use Rattle.method.specs.Walk.{NoChain, RightAnswer, none-there, way-there, Once, none-yet}
 use Rattle.method.specs.Change.{Altered}
 use Rattle.method.specs.Growth.{NumbersFit, RaisesAtMost}
-use Rattle.method.proofs.Notions.{Inconsistent}
+use Rattle.method.specs.During.{Inconsistent}
 use Rattle.method.proofs.Facts.{rhs-le}
 use Rattle.method.proofs.Bounds.{or-infinite, rhs-bound, lesser-finite, sum-fits, key-fits}
 use Rattle.method.proofs.Entries.{first-finite}

@@ -10,3 +10,4 @@ pub mod Sound
 pub mod Walk
 pub mod Change
 pub mod Growth
+pub mod During

@@ -12,8 +12,8 @@ use Rattle.method.specs.Steps.{Kind, raise, kindOf, stepped}
 use Rattle.method.specs.Loop.{nextCell}
 use Rattle.method.specs.Session.{Session}
 use Rattle.method.specs.Sound.{Sound}
+use Rattle.method.specs.During.{During}
 use Rattle.method.proofs.Notions.{Kept, Renewed, Raise, Did, did-put-back, did-lower, did-raise}
-use Rattle.method.proofs.Bounds.{During}
 use Rattle.method.proofs.Running.{did-next}
 use Rattle.method.proofs.Searching.{huntTaken, boundTaken, runTaken, during-sound, went-to}
 use Rattle.plan.specs.Cells.{Size, entered}

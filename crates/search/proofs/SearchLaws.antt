@@ -13,7 +13,7 @@ use Rattle.method.specs.Graph.{GraphLaws}
 use Rattle.method.specs.Tables as method
 use Rattle.method.specs.Loop.{Ran, run}
 use Rattle.method.specs.Session as calls
-use Rattle.method.proofs.Bounds.{During}
+use Rattle.method.specs.During.{During}
 use Rattle.method.proofs.Facts.{rhs-le}
 use Rattle.method.proofs.Readying.{takenOver-sized, ready}
 use Rattle.method.proofs.Answers.{Stopped, Trail, trail, trail-way}

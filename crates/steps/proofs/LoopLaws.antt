@@ -13,7 +13,7 @@ use Rattle.method.specs.Tables as method
 use Rattle.method.specs.Steps.{stepped}
 use Rattle.method.specs.Loop.{nextCell, isNone, after, run}
 use Rattle.method.specs.Growth.{FiniteUpTo}
-use Rattle.method.proofs.Bounds.{During, most}
+use Rattle.method.specs.During.{most, During}
 use Rattle.method.proofs.Growth.{up-to-more, during-up-to}
 use Rattle.method.proofs.Running.{run-zero, run-none, run-some, pick-next, during-step, stepOn}
 use Rattle.method.proofs.Stepping.{stepped-sized}

@@ -4,7 +4,7 @@ use mathlib.Core.Bool.{Bool}
 use Prim.Native.Nat.{ℕ, _*_, _≤_}
 use lib.ListN.{length}
 use Rattle.method.specs.Loop.{run}
-use Rattle.method.proofs.Bounds.{During, most}
+use Rattle.method.specs.During.{most, During}
 use Rattle.tables.specs.Lent.{Tables, core}
 use Rattle.entries.specs.declared.Aim.{Aim}
 use Rattle.entries.specs.Aims.{area, hunt, mostG, Held}
