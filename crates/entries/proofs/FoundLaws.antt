@@ -53,7 +53,7 @@ anew-small p O g S s = at (anew-least (graphOf p) g s .reached)
         let c = L .cost-le s (method.anew (graphOf p) g s .code) (v .from) (v .cost) (v .comes) in
         ⊎-elim (λ (e : getD g (v .from) 0 ≡ infinite). absurd (omega (arith, v .sum))) (λ (h : getD g (v .from) 0 ≤ mostG). inr (omega (arith, v .sum, c))) (S (v .from))
 
-    at : ((method.anew (graphOf p) g s .sum ≡ infinite) × (method.anew (graphOf p) g s .code ≡ 0)) ⊎ ((method.anew (graphOf p) g s .sum < infinite) × method.Via (graphOf p) (λ w. getD g w 0) s (method.anew (graphOf p) g s .sum) (method.anew (graphOf p) g s .code))
+    at : method.Reached (graphOf p) (λ w. getD g w 0) s (method.anew (graphOf p) g s .sum) (method.anew (graphOf p) g s .code)
         → (method.anew (graphOf p) g s .sum ≡ infinite) ⊎ (method.anew (graphOf p) g s .sum ≤ mostRhs)
     at (inl e) = inl (e .0)
     at (inr x) = by (x .1) (x .0)

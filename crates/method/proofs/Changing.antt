@@ -6,11 +6,11 @@ use native.Mathlib.Omega.{arith}
 use native.Mathlib.Decide.{ℕ-discrete}
 use Rattle.decide.proofs.ChooseLaws.{choose-is}
 use Rattle.method.specs.Graph.{Graph, Comes, Hunt}
-use Rattle.method.specs.Tables.{Tables, Sized, gAt, rhsAt, parentAt, Least}
+use Rattle.method.specs.Tables.{Tables, Sized, gAt, rhsAt, parentAt, Least, LeastAt}
 use Rattle.method.specs.Session.{Session, huntOf, moveChanged}
 use Rattle.method.specs.Sound.{Sound}
 use Rattle.method.specs.Change.{Altered}
-use Rattle.method.specs.During.{LeastAt, Right}
+use Rattle.method.specs.During.{Right}
 use Rattle.method.proofs.Keeping.{Held, least-stays}
 use Rattle.method.proofs.LeastSums.{anew-least}
 use Rattle.method.proofs.Entries.{withRhs-sized, setRight-sized, foundAnew-sized, Reset, reset, anew-reset}

@@ -6,11 +6,11 @@ use native.Mathlib.Omega.{arith}
 use native.Mathlib.Decide.{ℕ-discrete, decLe}
 use Rattle.method.specs.Numbers.{infinite}
 use Rattle.method.specs.Graph.{Graph, Comes, GraphLaws, Hunt}
-use Rattle.method.specs.Tables.{Tables, gAt, rhsAt, parentAt, storedKey, Least}
+use Rattle.method.specs.Tables.{Tables, gAt, rhsAt, parentAt, storedKey, Reached, Least}
 use Rattle.method.specs.Steps.{Kind, put-back, lower, raise}
 use Rattle.method.specs.During.{Stands, key, Inconsistent, Right, Floor, Settled, dec-settled, lack, sum, unsettled}
 use Rattle.method.proofs.Counting.{lack-le, lack-keep, lack-gain, sum-bound, sum-keep, sum-drop}
-use Rattle.method.proofs.Notions.{Reached, ReachedAt, Pick, Same, Lowered, Lower, Kept, Renewed, Raise, Did, did-put-back, did-lower, did-raise}
+use Rattle.method.proofs.Notions.{ReachedAt, Pick, Same, Lowered, Lower, Kept, Renewed, Raise, Did, did-put-back, did-lower, did-raise}
 
 -- the parent's move gives the sum
 parent-sum : (H : Hunt) → Stands H → (T : Tables) → Right H T → (s u c : ℕ) → s < H .graph .cells → s ≢ H .hunter → Comes (H .graph) s (parentAt T s) u c

@@ -6,10 +6,10 @@ use native.Mathlib.Omega.{arith}
 use native.Mathlib.Decide.{ℕ-discrete}
 use Rattle.method.specs.Numbers.{infinite}
 use Rattle.method.specs.Graph.{Graph, Comes, Hunt}
-use Rattle.method.specs.Tables.{Tables, gAt, rhsAt, parentAt, storedKey, Least}
+use Rattle.method.specs.Tables.{Tables, gAt, rhsAt, parentAt, storedKey, Reached, Least, LeastAt}
 use Rattle.method.specs.Steps.{Kind}
-use Rattle.method.specs.During.{Stands, key, Inconsistent, QueueRight, LeastAt, Right}
-use Rattle.method.proofs.Notions.{EntryRight, Reached, Pick, SameEntry, Same, PutBack, Lowered, Lower, Kept, Renewed, Raise, HunterKept, Did, did-put-back, did-lower, did-raise}
+use Rattle.method.specs.During.{Stands, key, Inconsistent, QueueRight, Right}
+use Rattle.method.proofs.Notions.{EntryRight, Pick, SameEntry, Same, PutBack, Lowered, Lower, Kept, Renewed, Raise, HunterKept, Did, did-put-back, did-lower, did-raise}
 use Rattle.method.proofs.Facts.{raise-up}
 
 -- ---- a cell whose numbers stay

@@ -8,7 +8,7 @@ use lib.ListN.{getD}
 use Rattle.decide.proofs.ChooseLaws.{choose-is}
 use Rattle.method.specs.Numbers.{infinite}
 use Rattle.method.specs.Graph.{Move, move, Graph}
-use Rattle.method.specs.Tables.{Found, found, better, leastOver, anew, Via, Least}
+use Rattle.method.specs.Tables.{Found, found, better, leastOver, anew, Reached, Least}
 
 -- r came from looking through the moves of l, f the least found before
 record Over (g : List ℕ) (f : Found) (l : List Move) (r : Found) : Type 0 where
@@ -59,7 +59,7 @@ anew-least G g s = record { le-inf = o .le; least = o .least; reached = at (o .f
     o = over g (found infinite 0) (G .into s)
 
     at : (r ≡ found infinite 0) ⊎ ((r .sum < infinite) × (w : ℕ) × (c : ℕ) × List·Memᴰ (move (r .code) w c) (G .into s) × (r .sum ≡ getD g w 0 + c))
-        → ((r .sum ≡ infinite) × (r .code ≡ 0)) ⊎ ((r .sum < infinite) × Via G (λ w. getD g w 0) s (r .sum) (r .code))
+        → Reached G (λ w. getD g w 0) s (r .sum) (r .code)
     at (inl e) = inl (ap (λ x. x .sum) e, ap (λ x. x .code) e)
     at (inr v) = inr (v .0, record { from = v .1; cost = v .2; comes = v .3; sum = v .4 })
 

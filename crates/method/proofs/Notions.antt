@@ -4,19 +4,16 @@ use mathlib.Core.Logic.{_⊎_, _≢_}
 use Prim.Native.Nat.{ℕ, _+_, _≤_, _<_}
 use Rattle.method.specs.Numbers.{infinite}
 use Rattle.method.specs.Graph.{Graph, Comes, Hunt}
-use Rattle.method.specs.Tables.{Tables, gAt, rhsAt, parentAt, queuedAt, storedKey, Via}
+use Rattle.method.specs.Tables.{Tables, gAt, rhsAt, parentAt, queuedAt, storedKey, Reached, LeastAt}
 use Rattle.method.specs.Steps.{Kind, put-back, lower, raise}
-use Rattle.method.specs.During.{key, Inconsistent, QueueRight, LeastAt}
+use Rattle.method.specs.During.{key, Inconsistent, QueueRight}
 
 -- The queue is right at s, and holds it under the calculated key: its entry has been set right.
 pub record EntryRight (H : Hunt) (T : Tables) (s : ℕ) : Type 0 where
   pub queue : QueueRight T s
   pub full : Inconsistent T s → storedKey T s ≡ key H T s
 
--- The two ways in which a cell's rhs r and parent p come about: none, or by the parent's move.
-abbrev pub Reached : Graph → (ℕ → ℕ) → ℕ → ℕ → ℕ → Type 0
-Reached G g s r p = ((r ≡ infinite) × (p ≡ 0)) ⊎ ((r < infinite) × Via G g s r p)
-
+-- How rhs and parent of s came about.
 abbrev pub ReachedAt : Graph → Tables → ℕ → Type 0
 ReachedAt G T s = Reached G (λ w. gAt T w) s (rhsAt T s) (parentAt T s)
 

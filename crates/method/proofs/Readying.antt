@@ -9,7 +9,7 @@ use lib.Seq.{getD-set-same, getD-set-other}
 use Rattle.decide.proofs.ChooseLaws.{choose-is}
 use Rattle.method.specs.Numbers.{infinite, mostCost, mostEstimate, mostSearches, growth}
 use Rattle.method.specs.Graph.{Graph, GraphLaws, Hunt}
-use Rattle.method.specs.Tables.{Tables, Sized, gAt, rhsAt, parentAt, queuedAt, storedKey, anew, Least}
+use Rattle.method.specs.Tables.{Tables, Sized, gAt, rhsAt, parentAt, queuedAt, storedKey, anew, LeastAt}
 use Rattle.method.specs.Session.{Session, huntOf, State, opened, blank, fresh, freshStart, targetTaken, hunterTaken, handedOver, takenOver}
 use Rattle.method.specs.Sound.{Sound}
 use Rattle.method.specs.Growth.{FiniteUpTo}
@@ -66,7 +66,7 @@ module _ {G : Graph} (L : GraphLaws G) {hunter target : ℕ} (lh : hunter < G .c
       reset-right fresh-reset (λ s l. omega (arith, blank-cell (G .cells) s l .g)) (omega (arith, fresh-reset .rhs)) (fresh-reset .parent)
       (λ s l _ _. least s l) (λ n. absurd (n refl)) (λ s l _. held s l)
     where
-      least : (s : ℕ) → s < G .cells → Least G (λ w. gAt (blank (G .cells)) w) s (rhsAt (blank (G .cells)) s) (parentAt (blank (G .cells)) s)
+      least : (s : ℕ) → s < G .cells → LeastAt G (blank (G .cells)) s
       least s l =
           let b = blank-cell (G .cells) s l in
           record {

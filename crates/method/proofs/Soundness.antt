@@ -8,10 +8,10 @@ use native.Mathlib.Decide.{ℕ-discrete}
 use lib.ListN.{getD}
 use Rattle.method.specs.Numbers.{infinite, mostEstimate, mostSearches, growth}
 use Rattle.method.specs.Graph.{Graph, GraphLaws, Hunt}
-use Rattle.method.specs.Tables.{Tables, Sized, gAt, rhsAt, parentAt, queuedAt, storedKey, calculatedKey, Least}
+use Rattle.method.specs.Tables.{Tables, Sized, gAt, rhsAt, parentAt, queuedAt, storedKey, calculatedKey, Least, LeastAt}
 use Rattle.method.specs.Session.{Session, huntOf}
 use Rattle.method.specs.Sound.{Sound}
-use Rattle.method.specs.During.{Stands, Inconsistent, LeastAt, Right, Bound}
+use Rattle.method.specs.During.{Stands, Inconsistent, Right, Bound}
 use Rattle.method.proofs.Facts.{rhs-le}
 use Rattle.method.proofs.Keeping.{Held, held-right, held-same}
 use Rattle.method.proofs.Bounds.{finite-le, or-infinite}

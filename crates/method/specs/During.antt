@@ -5,8 +5,8 @@ use mathlib.Core.Logic.{_≢_, Dec·and}
 use Prim.Native.Nat.{ℕ, zero, suc, _+_, _*_, _≤_, _<_}
 use native.Mathlib.Decide.{ℕ-discrete, decLe}
 use Rattle.method.specs.Numbers.{infinite, mostCost, mostEstimate}
-use Rattle.method.specs.Graph.{Graph, GraphLaws, Hunt}
-use Rattle.method.specs.Tables.{Tables, Sized, gAt, rhsAt, parentAt, queuedAt, keyNumber, storedKey, lesser, Least}
+use Rattle.method.specs.Graph.{GraphLaws, Hunt}
+use Rattle.method.specs.Tables.{Tables, Sized, gAt, rhsAt, parentAt, queuedAt, keyNumber, storedKey, lesser, LeastAt}
 
 -- The graph obeys its laws, and hunter and target are cells of it.
 pub record Stands (H : Hunt) : Type 0 where
@@ -31,10 +31,6 @@ pub record QueueRight (T : Tables) (s : ℕ) : Type 0 where
   pub in-queue : Inconsistent T s → queuedAt T s ≡ true
   pub not-in-queue : gAt T s ≡ rhsAt T s → queuedAt T s ≡ false
   pub idle : gAt T s ≡ rhsAt T s → storedKey T s ≡ 0
-
--- rhs and parent of s are the least over the moves into it.
-abbrev pub LeastAt : Graph → Tables → ℕ → Type 0
-LeastAt G T s = Least G (λ w. gAt T w) s (rhsAt T s) (parentAt T s)
 
 -- Soundness but for the sizes, the session and the bounds on numbers.
 pub record Right (H : Hunt) (T : Tables) : Type 0 where

@@ -6,7 +6,7 @@ use Prim.Native.Nat.{ℕ, _*_, _≤_, _<_}
 use lib.ListN.{getD}
 use Rattle.method.specs.Numbers.{infinite, mostEstimate, mostSearches, growth}
 use Rattle.method.specs.Graph.{Graph}
-use Rattle.method.specs.Tables.{Tables, Sized, gAt, rhsAt, parentAt, queuedAt, storedKey, calculatedKey, Least}
+use Rattle.method.specs.Tables.{Tables, Sized, gAt, rhsAt, parentAt, queuedAt, storedKey, calculatedKey, LeastAt}
 use Rattle.method.specs.Session.{Session, huntOf}
 
 pub record Sound (G : Graph) (σ : Session) (T : Tables) : Type 0 where
@@ -21,7 +21,7 @@ pub record Sound (G : Graph) (σ : Session) (T : Tables) : Type 0 where
   pub hunter-finite : rhsAt T (σ .origin) < infinite
   pub hunter-parent : parentAt T (σ .origin) ≡ 0
   -- "each other cell's rhs is the least g + cost .., and its parent is a neighbour that gives this least sum, 0 exactly if infinite"
-  pub least : (s : ℕ) → s < G .cells → s ≢ σ .origin → Least G (λ w. gAt T w) s (rhsAt T s) (parentAt T s)
+  pub least : (s : ℕ) → s < G .cells → s ≢ σ .origin → LeastAt G T s
   -- "the queue holds exactly the cells with g ≠ rhs"
   pub in-queue : (s : ℕ) → s < G .cells → gAt T s ≢ rhsAt T s → queuedAt T s ≡ true
   pub not-in-queue : (s : ℕ) → s < G .cells → gAt T s ≡ rhsAt T s → queuedAt T s ≡ false

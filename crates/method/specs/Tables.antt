@@ -111,8 +111,16 @@ pub record Via (G : Graph) (g : ℕ → ℕ) (s r p : ℕ) : Type 0 where
   pub comes : Comes G s p from cost
   pub sum : r ≡ g from + cost
 
+-- The two ways in which a cell's rhs r and parent p come about: none, or by the parent's move.
+abbrev pub Reached : Graph → (ℕ → ℕ) → ℕ → ℕ → ℕ → Type 0
+Reached G g s r p = ((r ≡ infinite) × (p ≡ 0)) ⊎ ((r < infinite) × Via G g s r p)
+
 -- "rhs is the least g + cost over its neighbours' open moves into it (infinite if none), and its parent is a neighbour that gives this least sum, 0 exactly if infinite"
 pub record Least (G : Graph) (g : ℕ → ℕ) (s r p : ℕ) : Type 0 where
   pub le-inf : r ≤ infinite
   pub least : (k w c : ℕ) → Comes G s k w c → r ≤ g w + c
-  pub reached : ((r ≡ infinite) × (p ≡ 0)) ⊎ ((r < infinite) × Via G g s r p)
+  pub reached : Reached G g s r p
+
+-- rhs and parent of s are the least over the moves into it.
+abbrev pub LeastAt : Graph → Tables → ℕ → Type 0
+LeastAt G T s = Least G (λ w. gAt T w) s (rhsAt T s) (parentAt T s)

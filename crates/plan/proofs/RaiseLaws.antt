@@ -2,18 +2,17 @@
 use mathlib.Core.Path.{_≡_, sym, ap, subst, _∙_}
 use mathlib.Core.Logic.{_⊎_, inl, inr, _≢_, _↔_}
 use mathlib.Core.Option.{some}
-use Prim.Native.Nat.{ℕ, _+_, _<_}
+use Prim.Native.Nat.{ℕ, _+_}
 use native.Mathlib.Omega.{arith}
 use Rattle.decide.proofs.ChooseLaws.{differ}
-use Rattle.method.specs.Numbers.{infinite}
 use Rattle.method.specs.Graph.{Comes, GraphLaws, Hunt}
-use Rattle.method.specs.Tables.{Tables, gAt, rhsAt, parentAt, queuedAt, storedKey, Via, Least}
+use Rattle.method.specs.Tables.{Tables, rhsAt, parentAt, queuedAt, storedKey, LeastAt}
 use Rattle.method.specs.Steps.{Kind, raise, kindOf, stepped}
 use Rattle.method.specs.Loop.{nextCell}
 use Rattle.method.specs.Session.{Session}
 use Rattle.method.specs.Sound.{Sound}
 use Rattle.method.specs.During.{During}
-use Rattle.method.proofs.Notions.{Kept, Renewed, Raise, Did, did-put-back, did-lower, did-raise}
+use Rattle.method.proofs.Notions.{ReachedAt, Kept, Renewed, Raise, Did, did-put-back, did-lower, did-raise}
 use Rattle.method.proofs.Running.{did-next}
 use Rattle.method.proofs.Searching.{huntTaken, boundTaken, runTaken, during-sound, went-to}
 use Rattle.plan.specs.Cells.{Size, entered}
@@ -42,7 +41,7 @@ module _ (p : Plan) (z : Size (p .width) (p .height)) where
     to : NeighbourWithParent p T s u → EnteredByParent p T s u
     to n = at (S .least s (n .stays .from-in) (λ e. omega (arith, n .byte, ap (parentAt T) e, S .hunter-parent)) .reached)
       where
-        at : ((rhsAt T s ≡ infinite) × (parentAt T s ≡ 0)) ⊎ ((rhsAt T s < infinite) × Via (graphOf p) (λ w. gAt T w) s (rhsAt T s) (parentAt T s)) → EnteredByParent p T s u
+        at : ReachedAt (graphOf p) T s → EnteredByParent p T s u
         at (inl h) = absurd (omega (arith, n .byte, h .1))
         at (inr h) =
             let v = h .1 in
@@ -86,7 +85,7 @@ module _ (p : Plan) (z : Size (p .width) (p .height)) where
     }
       where
         anew : (s : ℕ) → s ≢ huntTaken (graphOf p) σ T .hunter → NeighbourWithParent p here s u → Kept (huntTaken (graphOf p) σ T) here then-here u s ⊎ Renewed (huntTaken (graphOf p) σ T) here then-here u s
-            → Least (graphOf p) (λ w. gAt then-here w) s (rhsAt then-here s) (parentAt then-here s)
+            → LeastAt (graphOf p) then-here s
         anew s h m (inl k) = let e = neighbour s .0 m in absurd (k .not-parent h (e .cost) (laws .comes-in s (parentAt here s) u (e .cost) (e .open-move)))
         anew s h m (inr k) = k .found
 

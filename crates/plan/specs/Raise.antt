@@ -5,7 +5,7 @@ use mathlib.Core.List.{List·Memᴰ}
 use Prim.Native.Nat.{ℕ, _+_, _<_}
 use Rattle.method.specs.Numbers.{infinite}
 use Rattle.method.specs.Graph.{move, Hunt}
-use Rattle.method.specs.Tables.{Tables, gAt, rhsAt, parentAt, queuedAt, storedKey, Least}
+use Rattle.method.specs.Tables.{Tables, gAt, rhsAt, parentAt, queuedAt, storedKey, LeastAt}
 use Rattle.plan.specs.Cells.{Stays, entered}
 use Rattle.plan.specs.Costs.{Plan, cells}
 use Rattle.plan.specs.Grid.{graphOf}
@@ -27,6 +27,6 @@ pub record EnteredByParent (p : Plan) (T : Tables) (s u : ℕ) : Type 0 where
 pub record RaisedAsWritten (p : Plan) (H : Hunt) (T T′ : Tables) (u : ℕ) : Type 0 where
   pub g-u : gAt T′ u ≡ infinite
   pub g-others : (s : ℕ) → s < cells p → s ≢ u → gAt T′ s ≡ gAt T s
-  pub found-anew : (s : ℕ) → s < cells p → s ≢ H .hunter → NeighbourWithParent p T s u → Least (graphOf p) (λ w. gAt T′ w) s (rhsAt T′ s) (parentAt T′ s)
+  pub found-anew : (s : ℕ) → s < cells p → s ≢ H .hunter → NeighbourWithParent p T s u → LeastAt (graphOf p) T′ s
   pub kept : (s : ℕ) → s < cells p → (s ≢ H .hunter → NeighbourWithParent p T s u → ⊥)
       → (rhsAt T′ s ≡ rhsAt T s) × (parentAt T′ s ≡ parentAt T s) × (s ≢ u → (storedKey T′ s ≡ storedKey T s) × (queuedAt T′ s ≡ queuedAt T s))

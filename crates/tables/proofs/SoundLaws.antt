@@ -8,8 +8,9 @@ use native.Mathlib.Omega.{arith}
 use native.Mathlib.Decide.{ℕ-discrete, decLt}
 use lib.ListN.{getD}
 use Rattle.method.specs.Numbers.{infinite}
-use Rattle.method.specs.Tables.{Via, Least, keyNumber, storedKey, lesser, firstKey, calculatedKey}
+use Rattle.method.specs.Tables.{Via, LeastAt, keyNumber, storedKey, lesser, firstKey, calculatedKey}
 use Rattle.method.specs.Session.{huntOf}
+use Rattle.method.proofs.Notions.{ReachedAt}
 use Rattle.method.proofs.Entries.{first-finite}
 use Rattle.queue.specs.Queue.{absent, Heap}
 use Rattle.queue.proofs.MemberLaws.{length-members, member-at, missing, is-absent, member-place, place-member}
@@ -89,17 +90,18 @@ module _ (s : Session) (t : Tables) (z : Size (s .width) (s .height)) (fit : Fit
           rw (opposes d ld .back) at (rw (back-again (z .wide) ld m) at R)
 
       parent-gives : (d : ℕ) → d < 4 → getD (t .parent) u 0 ≡ d + 1 → getD (t .rhs) u 0 ≢ infinite
-          → (getD (t .rhs) u 0 < infinite) × Via (graph s t) (λ w. getD (t .g) w 0) u (getD (t .rhs) u 0) (getD (t .parent) u 0)
+          → ReachedAt (graph s t) (core t) u
       parent-gives d ld e f = at (stays (s .width) (s .height) u d)
         where
-          at : Dec (Stays (s .width) (s .height) u d) → (getD (t .rhs) u 0 < infinite) × Via (graph s t) (λ w. getD (t .g) w 0) u (getD (t .rhs) u 0) (getD (t .parent) u 0)
+          at : Dec (Stays (s .width) (s .height) u d) → ReachedAt (graph s t) (core t) u
           at (no off) = absurd (way u d l ld .leaves off .1 e)
           at (yes m) =
               let R = sums d ld m in
               let v = entered (s .width) u d in
               let c = byte (floor s (t .plan)) (entered (s .width) u d) (opposite d) in
               let unshut : c ≢ shut = λ q. R .closed q e in
-              let is-cost = cost-of (bytes v (opposite d) (enters (z .wide) m .inside) (opposes d ld .small)) unshut in (
+              let is-cost = cost-of (bytes v (opposite d) (enters (z .wide) m .inside) (opposes d ld .small)) unshut in
+              inr (
                 omega (arith, rhs32 u),
                 record {
                   from = v;
@@ -109,7 +111,7 @@ module _ (s : Session) (t : Tables) (z : Size (s .width) (s .height)) (fit : Fit
                 },
               )
 
-      least : Least (graph s t) (λ w. getD (t .g) w 0) u (getD (t .rhs) u 0) (getD (t .parent) u 0)
+      least : LeastAt (graph s t) (core t) u
       least = record {
         le-inf = omega (arith, rhs32 u);
         least = λ k w c i.
@@ -119,9 +121,9 @@ module _ (s : Session) (t : Tables) (z : Size (s .width) (s .height)) (fit : Fit
         reached = at (ℕ-discrete (getD (t .parent) u 0) 0);
       }
         where
-          at : Dec (getD (t .parent) u 0 ≡ 0) → ((getD (t .rhs) u 0 ≡ infinite) × (getD (t .parent) u 0 ≡ 0)) ⊎ ((getD (t .rhs) u 0 < infinite) × Via (graph s t) (λ w. getD (t .g) w 0) u (getD (t .rhs) u 0) (getD (t .parent) u 0))
+          at : Dec (getD (t .parent) u 0 ≡ 0) → ReachedAt (graph s t) (core t) u
           at (yes q) = inl (own u l .unreached n q, q)
-          at (no q) = let r = own u l .reached n q in inr (parent-gives (getD (t .parent) u 0 - 1) (omega (arith, r .0)) (omega arith) (r .1))
+          at (no q) = let r = own u l .reached n q in parent-gives (getD (t .parent) u 0 - 1) (omega (arith, r .0)) (omega arith) (r .1)
 
     pub sound-of-rules : Sound s t
     sound-of-rules = record {
@@ -179,7 +181,7 @@ module _ (s : Session) (t : Tables) (z : Size (s .width) (s .height)) (fit : Fit
         → (getD (t .rhs) u 0 < infinite) × (v : Via (graph s t) (λ w. getD (t .g) w 0) u (getD (t .rhs) u 0) (getD (t .parent) u 0)) × Open (floor s (t .plan)) u (getD (t .parent) u 0) (v .from) (v .cost)
     parent-move u l n q = at (S .numbers .least u l n .reached)
       where
-        at : ((getD (t .rhs) u 0 ≡ infinite) × (getD (t .parent) u 0 ≡ 0)) ⊎ ((getD (t .rhs) u 0 < infinite) × Via (graph s t) (λ w. getD (t .g) w 0) u (getD (t .rhs) u 0) (getD (t .parent) u 0))
+        at : ReachedAt (graph s t) (core t) u
             → (getD (t .rhs) u 0 < infinite) × (v : Via (graph s t) (λ w. getD (t .g) w 0) u (getD (t .rhs) u 0) (getD (t .parent) u 0)) × Open (floor s (t .plan)) u (getD (t .parent) u 0) (v .from) (v .cost)
         at (inl x) = absurd (q (x .1))
         at (inr x) = (x .0, x .1, into-is (floor s (t .plan)) (z .wide) u (getD (t .parent) u 0) (x .1 .from) (x .1 .cost) (x .1 .comes))
@@ -192,7 +194,7 @@ module _ (s : Session) (t : Tables) (z : Size (s .width) (s .height)) (fit : Fit
       reached = λ n q. let m = parent-move u l n q in (omega (arith, m .2 .named, m .2 .small), λ e. omega (arith, m .0));
     }
       where
-        at : getD (t .parent) u 0 ≡ 0 → ((getD (t .rhs) u 0 ≡ infinite) × (getD (t .parent) u 0 ≡ 0)) ⊎ ((getD (t .rhs) u 0 < infinite) × Via (graph s t) (λ w. getD (t .g) w 0) u (getD (t .rhs) u 0) (getD (t .parent) u 0)) → getD (t .rhs) u 0 ≡ infinite
+        at : getD (t .parent) u 0 ≡ 0 → ReachedAt (graph s t) (core t) u → getD (t .rhs) u 0 ≡ infinite
         at q (inl x) = x .0
         at q (inr x) = absurd (omega (arith, into-is (floor s (t .plan)) (z .wide) u (getD (t .parent) u 0) (x .1 .from) (x .1 .cost) (x .1 .comes) .named))
 
