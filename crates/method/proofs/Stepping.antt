@@ -5,15 +5,14 @@ use mathlib.Core.Logic.{_⊎_, inl, inr, _≢_}
 use mathlib.Core.List.{List, [], _∷_, List·Memᴰ, List·Memᴰ·head, List·Memᴰ·tail, List·Memᴰ·not-nil, List·Memᴰ·cases-cons, List·Memᴰ·eq-of-singleton}
 use Prim.Native.Nat.{ℕ, _+_, _≤_, _<_}
 use native.Mathlib.Omega.{arith}
-use native.Mathlib.Decide.{ℕ-discrete, decLt}
+use native.Mathlib.Decide.{ℕ-discrete}
 use lib.ListN.{getD, set}
 use lib.Seq.{getD-set-same, getD-set-other}
-use Rattle.decide.specs.Choose.{choose}
 use Rattle.decide.proofs.ChooseLaws.{choose-is}
 use Rattle.method.specs.Numbers.{infinite}
 use Rattle.method.specs.Graph.{Move, move, Hunt}
 use Rattle.method.specs.Tables.{Tables, Sized, gAt, rhsAt, parentAt, withG, withRhs, storedKey, calculatedKey, enter, leave, setRight, anew, foundAnew}
-use Rattle.method.specs.Steps.{relaxed, relaxedAll, lowered, renewed, renewedAll, raised, put-back, lower, raise, kindOf, stepped}
+use Rattle.method.specs.Steps.{relaxed, relaxedAll, lowered, renewed, renewedAll, raised, Kind, put-back, lower, raise, kindOf, steppedBy, stepped}
 use Rattle.method.specs.During.{Stands, key, Right}
 use Rattle.method.proofs.Notions.{EntryRight, Pick, Same, PutBack, Lowered, Lower, Kept, Renewed, Raise, Did, did-put-back, did-lower, did-raise}
 use Rattle.method.proofs.Facts.{rhs-le}
@@ -54,10 +53,13 @@ unfolding raised
 raised-sized z H u = setRight-sized (renewedAll-sized (withG-sized z u infinite) H (H .graph .out u)) H u
 
 pub stepped-sized : {n : ℕ} {T : Tables} → Sized n T → (H : Hunt) (u : ℕ) → Sized n (stepped H T u)
-unfolding stepped
-stepped-sized {n} {T} z H u =
-    choose-is (λ x. Sized n x) _ (λ _. enter-sized z H u)
-    (λ _. choose-is (λ x. Sized n x) _ (λ _. lowered-sized z H u) (λ _. raised-sized z H u))
+unfolding stepped steppedBy
+stepped-sized {n} {T} z H u = at (kindOf H T u)
+  where
+    at : (k : Kind) → Sized n (steppedBy k H T u)
+    at put-back = enter-sized z H u
+    at lower = lowered-sized z H u
+    at raise = raised-sized z H u
 
 -- ---- lower: what relaxing a list of moves does to one cell
 
@@ -402,17 +404,16 @@ module _ {H : Hunt} {T : Tables} {u : ℕ} (L : Stands H) (z : Sized (H .graph .
 
   -- the step is what its kind says
   pub step-is : Did H T (stepped H T u) u (kindOf H T u)
-  unfolding stepped kindOf choose
-  step-is = at (decLt (storedKey T u) (calculatedKey H T u)) (decLt (rhsAt T u) (gAt T u))
+  unfolding stepped steppedBy kindOf
+  step-is =
+      choose-is Q _ (λ lt. did-put-back (put-back-is (omega (arith, lt, same-key))))
+      (λ n. choose-is Q _ (λ ov. did-lower (lower-is (ready (omega (arith, n))) ov)) (λ m. did-raise (raise-is (ready (omega (arith, n))) (omega (arith, m, P .queued)))))
     where
+      Q : Kind → Type 0
+      Q k = Did H T (steppedBy k H T u) u k
+
       same-key : calculatedKey H T u ≡ key H T u
       same-key = key-finite H T u (R .g-le u (P .u-in)) (rhs-le H T R u (P .u-in)) (P .queued)
 
-      ready : (storedKey T u < calculatedKey H T u → ⊥) → storedKey T u ≡ key H T u
-      ready n = omega (arith, R .keys u (P .u-in) (P .queued), same-key)
-
-      at : (d : Dec (storedKey T u < calculatedKey H T u)) (e : Dec (rhsAt T u < gAt T u))
-          → Did H T (choose d (enter H T u) (choose e (lowered H T u) (raised H T u))) u (choose d put-back (choose e lower raise))
-      at (yes lt) e = did-put-back (put-back-is (omega (arith, same-key)))
-      at (no n) (yes ov) = did-lower (lower-is (ready n) ov)
-      at (no n) (no m) = did-raise (raise-is (ready n) (omega (arith, P .queued)))
+      ready : calculatedKey H T u ≤ storedKey T u → storedKey T u ≡ key H T u
+      ready l = omega (arith, R .keys u (P .u-in) (P .queued), same-key)

@@ -35,6 +35,7 @@ renewedAll H T (m ∷ l) = renewedAll H (renewed H T m) l
 unfoldable pub raised : Hunt → Tables → ℕ → Tables
 raised H T u = setRight H (renewedAll H (withG T u infinite) (H .graph .out u)) u
 
+-- What a step does with its cell.
 pub data Kind : Type 0 where
   put-back lower raise : Kind
 
@@ -43,7 +44,12 @@ unfoldable pub kindOf : Hunt → Tables → ℕ → Kind
 kindOf H T u =
     choose (decLt (storedKey T u) (calculatedKey H T u)) put-back (choose (decLt (rhsAt T u) (gAt T u)) lower raise)
 
+-- What a step of each kind makes of the tables.
+unfoldable pub steppedBy : Kind → Hunt → Tables → ℕ → Tables
+steppedBy put-back H T u = enter H T u
+steppedBy lower H T u = lowered H T u
+steppedBy raise H T u = raised H T u
+
+-- One step on u: the step of its kind.
 unfoldable pub stepped : Hunt → Tables → ℕ → Tables
-stepped H T u =
-    choose (decLt (storedKey T u) (calculatedKey H T u)) (enter H T u)
-    (choose (decLt (rhsAt T u) (gAt T u)) (lowered H T u) (raised H T u))
+stepped H T u = steppedBy (kindOf H T u) H T u

@@ -1,5 +1,5 @@
 -- The steps over the tables are the method's.
-use mathlib.Core.Path.{_≡_, refl, sym, subst, _∙_}
+use mathlib.Core.Path.{_≡_, refl, sym, ap, subst, _∙_}
 use mathlib.Core.Bool.{Bool, true, false}
 use mathlib.Core.Logic.{_⊎_, inr, ⊎-elim, _≢_}
 use mathlib.Core.List.{List}
@@ -15,7 +15,7 @@ use Rattle.decide.proofs.ChooseLaws.{choose-yes, choose-no}
 use Rattle.method.specs.Numbers.{infinite, mostCost}
 use Rattle.method.specs.Graph.{Move, Hunt}
 use Rattle.method.specs.Tables as method
-use Rattle.method.specs.Steps.{relaxedAll, lowered, renewedAll, raised, stepped}
+use Rattle.method.specs.Steps.{relaxedAll, lowered, renewedAll, raised, put-back, lower, raise, kindOf, steppedBy, stepped}
 use Rattle.method.proofs.Appending.{relaxedAll-append, renewedAll-append}
 use Rattle.plan.specs.Directions.{rowStep, columnStep}
 use Rattle.plan.specs.Grid.{outBy, upTo}
@@ -140,22 +140,26 @@ raise-is a u plan g rhs parent k1 k2 place list four e B = became-as B (rw (e, f
 module _ (H : Hunt) (T : method.Tables) (u : ℕ) where
   -- the entry of a queued cell set right is the cell put back
   pub put-back-is : {r : Bool} → r ≡ ltb (method.storedKey T u) (method.calculatedKey H T u) → r ≡ true → method.gAt T u ≢ method.rhsAt T u → method.setRight H T u ≡ stepped H T u
-  unfolding stepped method.setRight
+  unfolding stepped steppedBy kindOf method.setRight
   put-back-is e t n =
-      choose-no (ℕ-discrete (method.gAt T u) (method.rhsAt T u)) _ _ n
-      ∙ sym (choose-yes (decLt (method.storedKey T u) (method.calculatedKey H T u)) _ _ (ltb-true _ _ (sym e ∙ t)))
+      let kind : kindOf H T u ≡ put-back = choose-yes (decLt (method.storedKey T u) (method.calculatedKey H T u)) _ _ (ltb-true _ _ (sym e ∙ t)) in
+      choose-no (ℕ-discrete (method.gAt T u) (method.rhsAt T u)) _ _ n ∙ sym (ap (λ k. steppedBy k H T u) kind)
 
   pub lowered-is : {r : Bool} → r ≡ ltb (method.storedKey T u) (method.calculatedKey H T u) → r ≡ false → method.rhsAt T u < method.gAt T u → lowered H T u ≡ stepped H T u
-  unfolding stepped
+  unfolding stepped steppedBy kindOf
   lowered-is e f l =
-      sym (choose-no (decLt (method.storedKey T u) (method.calculatedKey H T u)) _ _ (λ x. omega (arith, x, ltb-false (method.storedKey T u) (method.calculatedKey H T u) (sym e ∙ f)))
-      ∙ choose-yes (decLt (method.rhsAt T u) (method.gAt T u)) _ _ l)
+      let kind : kindOf H T u ≡ lower =
+      choose-no (decLt (method.storedKey T u) (method.calculatedKey H T u)) _ _ (λ x. omega (arith, x, ltb-false (method.storedKey T u) (method.calculatedKey H T u) (sym e ∙ f)))
+      ∙ choose-yes (decLt (method.rhsAt T u) (method.gAt T u)) _ _ l in
+      sym (ap (λ k. steppedBy k H T u) kind)
 
   pub raised-is : {r : Bool} → r ≡ ltb (method.storedKey T u) (method.calculatedKey H T u) → r ≡ false → method.gAt T u ≤ method.rhsAt T u → raised H T u ≡ stepped H T u
-  unfolding stepped
+  unfolding stepped steppedBy kindOf
   raised-is e f l =
-      sym (choose-no (decLt (method.storedKey T u) (method.calculatedKey H T u)) _ _ (λ x. omega (arith, x, ltb-false (method.storedKey T u) (method.calculatedKey H T u) (sym e ∙ f)))
-      ∙ choose-no (decLt (method.rhsAt T u) (method.gAt T u)) _ _ (λ x. omega arith))
+      let kind : kindOf H T u ≡ raise =
+      choose-no (decLt (method.storedKey T u) (method.calculatedKey H T u)) _ _ (λ x. omega (arith, x, ltb-false (method.storedKey T u) (method.calculatedKey H T u) (sym e ∙ f)))
+      ∙ choose-no (decLt (method.rhsAt T u) (method.gAt T u)) _ _ (λ x. omega arith) in
+      sym (ap (λ k. steppedBy k H T u) kind)
 
 -- the keys of a queued cell can be compared
 pub keyed : {a : Aim} {count u : ℕ} {at : Spot} {plan g rhs parent k1 k2 place list : List ℕ} → Aimed a plan → Held a count (tables plan g rhs parent k1 k2 place list)
