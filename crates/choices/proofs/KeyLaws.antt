@@ -1,7 +1,7 @@
 -- Keys compared as the code compares them.
 use mathlib.Core.Path.{_≡_, refl, sym, _∙_}
 use mathlib.Core.Bool.{Bool}
-use mathlib.Core.Logic.{_≢_}
+use mathlib.Core.Logic.{inl, ⊎-elim, _≢_}
 use mathlib.Core.List.{List}
 use Prim.Native.Nat.{ℕ, _+_, _<_, min}
 use native.Mathlib.Omega.{arith}
@@ -11,6 +11,7 @@ use lib.ListN.{getD}
 use borrow.Author.Tests.{lt-ltb, le-ltb}
 use Rattle.method.specs.Numbers.{infinite}
 use Rattle.method.specs.Tables.{keyNumber, storedKey, calculatedKey}
+use Rattle.method.proofs.Theorems.{key-less}
 use Rattle.plan.specs.Reached.{between}
 use Rattle.plan.specs.declared.Spot.{Spot}
 use Rattle.plan.proofs.EstimateLaws.{estimate-le}
@@ -29,10 +30,13 @@ same-test a b c d f g = at (decLt a b)
     at (yes l) = lt-ltb a b l ∙ sym (lt-ltb c d (f l))
     at (no n) = le-ltb a b (omega arith) ∙ sym (le-ltb c d (let m : c < d → ⊥ = λ h. n (g h) in omega arith))
 
--- the first numbers differ: they decide; else the second
+-- the first numbers differ: they decide ..
 pub key-first : (a b c d : ℕ) → b < 4294967296 → d < 4294967296 → a ≢ c → ltb a c ≡ ltb (keyNumber a b) (keyNumber c d)
-key-first a b c d lb ld n = same-test a c (keyNumber a b) (keyNumber c d) (λ h. omega arith) (λ h. omega arith)
+key-first a b c d lb ld n =
+    let order = key-less a b c d lb ld in
+    same-test a c (keyNumber a b) (keyNumber c d) (λ h. order .1 (inl h)) (λ h. ⊎-elim (λ (l : a < c). l) (λ (e : (a ≡ c) × (b < d)). absurd (n (e .0))) (order .0 h))
 
+-- .. else the second
 pub key-second : (a b c d : ℕ) → a ≡ c → ltb b d ≡ ltb (keyNumber a b) (keyNumber c d)
 key-second a b c d e = same-test b d (keyNumber a b) (keyNumber c d) (λ h. omega arith) (λ h. omega arith)
 

@@ -11,7 +11,7 @@ use lib.ListN.{length, getD}
 use Rattle.decide.proofs.ChooseLaws.{differ}
 use Rattle.method.specs.Numbers.{infinite, mostCost, mostEstimate, mostSearches, growth}
 use Rattle.method.specs.Graph.{Graph, GraphLaws, Hunt}
-use Rattle.method.specs.Tables.{Tables, Sized, gAt, rhsAt, queuedAt, keyNumber, lesser, firstKey}
+use Rattle.method.specs.Tables.{Tables, Sized, gAt, rhsAt, queuedAt, keyNumber, NotAbove, lesser, firstKey}
 use Rattle.method.specs.Steps.{stepped}
 use Rattle.method.specs.Loop.{leastQueued, nextCell, Step, Ran, after, isNone, run}
 use Rattle.method.specs.Course.{Before, LeastCell, Runs, ends, takes}
@@ -231,18 +231,23 @@ module _ {G : Graph} (L : GraphLaws G) (T : Tables) (n : ℕ) where
   pub least-cell-none : (leastQueued G T n ≡ none) ↔ ((s : ℕ) → s < n → queuedAt T s ≡ true → ⊥)
   least-cell-none = (λ e. rw e at (least-is L T n), none-queued L T n)
 
--- The order of keys as one number is that of the pairs, k1 first, and equal numbers are equal pairs.
-pub key-order : (a b c d : ℕ) → b < 4294967296 → d < 4294967296 → (keyNumber a b < keyNumber c d) ↔ ((a < c) ⊎ ((a ≡ c) × (b < d)))
+-- The order of keys as one number is that of the pairs, k1 first ..
+pub key-order : (a b c d : ℕ) → b ≤ 4294967296 → d < 4294967296 → (keyNumber a b ≤ keyNumber c d) ↔ NotAbove a b c d
 key-order a b c d lb ld = (λ h. to h (decLt a c), from)
   where
-    to : keyNumber a b < keyNumber c d → Dec (a < c) → (a < c) ⊎ ((a ≡ c) × (b < d))
+    to : keyNumber a b ≤ keyNumber c d → Dec (a < c) → NotAbove a b c d
     to h (yes l) = inl l
     to h (no n) = inr (omega arith, omega arith)
 
-    from : (a < c) ⊎ ((a ≡ c) × (b < d)) → keyNumber a b < keyNumber c d
+    from : NotAbove a b c d → keyNumber a b ≤ keyNumber c d
     from (inl l) = omega arith
     from (inr e) = omega (arith, e)
 
+-- .. "below" too ..
+pub key-less : (a b c d : ℕ) → b < 4294967296 → d < 4294967296 → (keyNumber a b < keyNumber c d) ↔ ((a < c) ⊎ ((a ≡ c) × (b < d)))
+key-less a b c d lb ld = let next = key-order a (suc b) c d lb ld in (λ h. next .0 (omega arith), λ h. omega (arith, next .1 h))
+
+-- .. and equal numbers are equal pairs.
 pub key-equal : (a b c d : ℕ) → b < 4294967296 → d < 4294967296 → keyNumber a b ≡ keyNumber c d → (a ≡ c) × (b ≡ d)
 key-equal a b c d lb ld e = (omega arith, omega arith)
 

@@ -54,6 +54,10 @@ withEntry T s a b q = record { g = T .g; rhs = T .rhs; parent = T .parent; k1 = 
 abbrev pub keyNumber : ℕ → ℕ → ℕ
 keyNumber a b = 4294967296 * a + b
 
+-- Key (a, b) is not above key (c, d), "compared k1 first": `key-order` in proofs/Theorems says that it is the order of those numbers.
+abbrev pub NotAbove : ℕ → ℕ → ℕ → ℕ → Type 0
+NotAbove a b c d = (a < c) ⊎ ((a ≡ c) × (b ≤ d))
+
 abbrev pub storedKey : Tables → ℕ → ℕ
 storedKey T s = keyNumber (getD (T .k1) s 0) (getD (T .k2) s 0)
 

@@ -1,17 +1,18 @@
 -- Tables are sound exactly if the record's numbers and every cell obey the check's rules.
 use mathlib.Core.Path.{_≡_, refl, sym, ap, subst, _∙_}
 use mathlib.Core.Bool.{true, false}
-use mathlib.Core.Logic.{_⊎_, inl, inr, ⊎-elim, _≢_}
+use mathlib.Core.Logic.{_⊎_, inl, inr, ⊎-elim, _≢_, _↔_}
 use mathlib.Core.List.{List}
 use Prim.Native.Nat.{ℕ, _+_, _-_, _≤_, _<_}
 use native.Mathlib.Omega.{arith}
-use native.Mathlib.Decide.{ℕ-discrete, decLt}
+use native.Mathlib.Decide.{ℕ-discrete}
 use lib.ListN.{getD}
 use Rattle.method.specs.Numbers.{infinite}
-use Rattle.method.specs.Tables.{Via, LeastAt, keyNumber, storedKey, lesser, firstKey, calculatedKey}
+use Rattle.method.specs.Tables.{Via, LeastAt, keyNumber, NotAbove, storedKey, lesser, firstKey, calculatedKey}
 use Rattle.method.specs.Session.{huntOf}
 use Rattle.method.proofs.Notions.{ReachedAt}
 use Rattle.method.proofs.Entries.{first-finite}
+use Rattle.method.proofs.Theorems.{key-order}
 use Rattle.queue.specs.Queue.{absent, Heap}
 use Rattle.queue.proofs.MemberLaws.{length-members, member-at, missing, is-absent, member-place, place-member}
 use Rattle.queue.proofs.RuleLaws.{heap-of-rules, entry-rule, cell-rule}
@@ -25,19 +26,7 @@ use Rattle.plan.proofs.MoveLaws.{area, cost-of, not-a-cost}
 use Rattle.tables.specs.declared.Session.{Session}
 use Rattle.tables.specs.Lent.{Tables, Fits, cells, floor, graph, session, core}
 use Rattle.tables.specs.Sound.{Sound}
-use Rattle.tables.specs.Rules.{most, Numbers, MoveRule, WayRule, OwnRule, NotAbove, KeyRule, CellRules}
-
--- the order of key numbers is that of the pairs
-not-above-number : (a b c d : ℕ) → b < 4294967296 → NotAbove a b c d → keyNumber a b ≤ keyNumber c d
-not-above-number a b c d l (inl h) = omega arith
-not-above-number a b c d l (inr h) = omega (arith, h)
-
-number-not-above : (a b c d : ℕ) → d < 4294967296 → keyNumber a b ≤ keyNumber c d → NotAbove a b c d
-number-not-above a b c d l h = at (decLt a c)
-  where
-    at : Dec (a < c) → NotAbove a b c d
-    at (yes k) = inl k
-    at (no k) = inr (omega arith, omega arith)
+use Rattle.tables.specs.Rules.{most, Numbers, MoveRule, WayRule, OwnRule, KeyRule, CellRules}
 
 -- the numbers of a table of 32 bits
 abbrev pub Words : List ℕ → Type 0
@@ -57,6 +46,10 @@ module _ (s : Session) (t : Tables) (z : Size (s .width) (s .height)) (fit : Fit
   key-of : (u : ℕ) → getD (t .g) u 0 ≤ infinite → getD (t .g) u 0 ≢ getD (t .rhs) u 0
       → firstKey (huntOf (graph s t) (session s)) u (lesser (core t) u) ≡ lesser (core t) u + estimate (s .width) u (s .goal) + s .km
   key-of u l n = first-finite (huntOf (graph s t) (session s)) u (lesser (core t) u) (omega (arith, rhs32 u))
+
+  -- the stored key of a cell against a calculated one, as numbers and as pairs
+  key-by : (u first : ℕ) → (storedKey (core t) u ≤ keyNumber first (lesser (core t) u)) ↔ NotAbove (getD (t .k1) u 0) (getD (t .k2) u 0) first (lesser (core t) u)
+  key-by u first = key-order (getD (t .k1) u 0) (getD (t .k2) u 0) first (lesser (core t) u) (omega (arith, k32 u)) (omega (arith, rhs32 u))
 
   module _ (N : Numbers s) (C : (u : ℕ) → u < cells s → CellRules s t u) where
     way : (u d : ℕ) → u < cells s → d < 4 → WayRule (floor s (t .plan)) (t .rhs) (t .parent) (s .origin) (getD (t .g) u 0) u d
@@ -159,7 +152,7 @@ module _ (s : Session) (t : Tables) (z : Size (s .width) (s .height)) (fit : Fit
         keys u l q =
             let there = member-place (t .place) u q .1 in
             let n : getD (t .g) u 0 ≢ getD (t .rhs) u 0 = λ e. there (key u l .idle e) in
-            rw (key-of u (g-finite u l) n) (not-above-number _ _ _ _ (k32 u) (key u l .queued n .1))
+            rw (key-of u (g-finite u l) n) (key-by u _ .1 (key u l .queued n .1))
 
   module _ (S : Sound s t) where
     pub numbers-rule : Numbers s
@@ -203,7 +196,7 @@ module _ (s : Session) (t : Tables) (z : Size (s .width) (s .height)) (fit : Fit
       idle = λ e. false-member l (S .numbers .not-in-queue u l e);
       queued = λ n.
           let q = S .numbers .in-queue u l n in
-          (member-place (t .place) u q .1, number-not-above _ _ _ _ (omega (arith, rhs32 u)) (rw (key-of u (g-small u l) n) at (S .numbers .keys u l q)));
+          (member-place (t .place) u q .1, key-by u _ .0 (rw (key-of u (g-small u l) n) at (S .numbers .keys u l q)));
     }
 
     -- the move that a parent byte names

@@ -10,6 +10,7 @@ use lib.Dec.{eqb, leb, ltb}
 use lib.ListN.{getD}
 use Rattle.decide.specs.Decides.{Decides}
 use Rattle.decide.proofs.DecideLaws.{decides-no, decides-ne, decides-le, decides-lt, decides-as}
+use Rattle.method.specs.Tables.{NotAbove}
 use Rattle.queue.specs.Queue.{absent}
 use Rattle.queue.specs.Rules.{EntryRule}
 use Rattle.plan.specs.Directions.{opposite}
@@ -21,7 +22,7 @@ use Rattle.plan.proofs.CellLaws.{stands-row, stands-column}
 use Rattle.plan.proofs.MoveLaws.{area}
 use Rattle.tables.specs.declared.Session.{Session}
 use Rattle.tables.specs.Lent.{cells}
-use Rattle.tables.specs.Rules.{Numbers, SumRule, MoveRule, WayRule, OwnRule, NotAbove, WaitingRule, AloneRule, most}
+use Rattle.tables.specs.Rules.{Numbers, SumRule, MoveRule, WayRule, OwnRule, WaitingRule, AloneRule, most}
 
 -- two keys, told by their first numbers or by their second
 pub above-by-first : (a b c d : ℕ) → a ≢ c → Decides (ltb a c) (NotAbove a b c d)

@@ -5,6 +5,7 @@ use mathlib.Core.List.{List}
 use Prim.Native.Nat.{ℕ, _+_, _*_, _≤_, _<_, min}
 use lib.ListN.{getD}
 use Rattle.method.specs.Numbers.{infinite, mostEstimate, mostSearches, growth}
+use Rattle.method.specs.Tables.{NotAbove}
 use Rattle.queue.specs.Queue.{absent}
 use Rattle.queue.specs.Rules.{EntryRule, CellRule}
 use Rattle.plan.specs.Directions.{opposite}
@@ -52,10 +53,6 @@ pub record OwnRule (bound hunter s g r p : ℕ) : Type 0 where
   pub hunter-le : s ≡ hunter → (r ≤ bound) × (p ≡ 0)
   pub unreached : s ≢ hunter → p ≡ 0 → r ≡ infinite
   pub reached : s ≢ hunter → p ≢ 0 → (p ≤ 4) × (r ≢ infinite)
-
--- Key (a, b) is not above key (c, d), "compared k1 first".
-abbrev pub NotAbove : ℕ → ℕ → ℕ → ℕ → Type 0
-NotAbove a b c d = (a < c) ⊎ ((a ≡ c) × (b ≤ d))
 
 -- A cell's place `at` and stored key (a, b): queued exactly if g ≠ rhs, under a key not above the calculated one; e is the estimate to the target.
 pub record KeyRule (at a b g r e km : ℕ) : Type 0 where

@@ -7,13 +7,14 @@ ghost use mathlib.Core.Logic.{_⊎_};
 ghost use Prim.Native.Nat.{_+_, _*_, _<_, _≤_, min};
 ghost use lib.ListN.{length};
 ghost use Rattle.decide.specs.Decides.{Decides};
+ghost use Rattle.method.specs.Tables.{NotAbove};
 ghost use Rattle.queue.specs.Rules.{Lengths};
 ghost use Rattle.plan.specs.Cells.{Size};
 ghost use Rattle.plan.specs.Costs.{planOf};
 ghost use Rattle.plan.specs.Reached.{At};
 ghost use Rattle.tables.specs.Lent.{cells, given, before, Fits};
 ghost use Rattle.tables.specs.Sound.{Sound};
-ghost use Rattle.tables.specs.Rules.{Numbers, SumRule, MoveRule, WayRule, OwnRule, NotAbove, WaitingRule, AloneRule, FirstFault};
+ghost use Rattle.tables.specs.Rules.{Numbers, SumRule, MoveRule, WayRule, OwnRule, WaitingRule, AloneRule, FirstFault};
 
 // The session record: the plan's size, hunter and target as placed, those of the last search taken over (origin and goal), km, the queue's count, and the number of searches since the last fresh start.
 #[repr(C)]
