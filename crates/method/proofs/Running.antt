@@ -10,7 +10,7 @@ use native.Mathlib.Decide.{ℕ-discrete}
 use lib.ListN.{length}
 use Rattle.method.specs.Numbers.{infinite}
 use Rattle.method.specs.Graph.{Hunt}
-use Rattle.method.specs.Tables.{Tables, Sized, gAt, rhsAt, queuedAt, storedKey, lesser, calculatedKey}
+use Rattle.method.specs.Tables.{Tables, gAt, rhsAt, queuedAt, storedKey, lesser, calculatedKey}
 use Rattle.method.specs.Steps.{kindOf, stepped}
 use Rattle.method.specs.Loop.{leastQueued, nextCell, Step, Ran, after, isNone, runOn, run}
 use Rattle.method.specs.Course.{Before, LeastCell, Continues}
@@ -44,14 +44,6 @@ run-none H (suc limit) T e = ap (λ o. runOn H (λ x. run H limit x) T o) e
 pub run-some : (H : Hunt) (limit : ℕ) (T : Tables) (u : ℕ) → nextCell H T ≡ some u → run H (suc limit) T ≡ after (stepOn H T u) (run H limit (stepped H T u))
 unfolding run runOn
 run-some H limit T u e = ap (λ o. runOn H (λ x. run H limit x) T o) e
-
-pub run-sized : {n : ℕ} {T : Tables} → Sized n T → (H : Hunt) (limit : ℕ) → Sized n (run H limit T .tables)
-run-sized {n} {T} z H zero = rw (run-zero H T) z
-run-sized {n} {T} z H (suc limit) = at (λ u. run-sized (stepped-sized z H u) H limit) (nextCell H T) refl
-  where
-    at : ((u : ℕ) → Sized n (run H limit (stepped H T u) .tables)) → (o : Option ℕ) → nextCell H T ≡ o → Sized n (run H (suc limit) T .tables)
-    at ih none e = rw (run-none H (suc limit) T e) z
-    at ih (some u) e = rw (run-some H limit T u e) (ih u)
 
 -- ---- what holds at the next cell, and at the end
 

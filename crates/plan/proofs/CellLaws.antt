@@ -1,6 +1,5 @@
 -- Leaving by a direction and coming back by its opposite returns to the cell; neighbours are different cells; their directions are unique.
 use mathlib.Core.Path.{_≡_, sym, ap, _∙_}
-use mathlib.Core.Logic.{_≢_}
 use Prim.Native.Nat.{ℕ, zero, suc, _+_, _-_, _*_, _/_, _%_, _≤_, _<_}
 use native.Mathlib.Nat.{div-add-mod', mod-lt, div-lt-iff-lt-mul, add-mul, suc-mul}
 use native.Mathlib.Omega.{arith}
@@ -91,18 +90,6 @@ back-again {width} {height} {s} {d} wide ld m =
   where
     step-mul : rowStep d * width + rowStep (opposite d) * width ≡ 2 * width
     step-mul = sym (add-mul (rowStep d) (rowStep (opposite d)) width) ∙ ap (λ x. x * width) (opposes d ld .rows)
-
--- Neighbours are different cells.
-pub another-cell : {width height s d : ℕ} → 1 ≤ width → d < 4 → Stays width height s d → entered width s d ≢ s
-another-cell {width} {height} {s} {d} wide ld m e =
-    omega (
-      arith,
-      enters wide m .to-row,
-      enters wide m .to-column,
-      ap (λ x. x / width) e,
-      ap (λ x. x % width) e,
-      opposes d ld .one-away,
-    )
 
 -- The two directions of a pair of neighbours are unique.
 pub one-direction : {width height s d e : ℕ} → 1 ≤ width → d < 4 → e < 4 → Stays width height s d → Stays width height s e

@@ -1,6 +1,6 @@
 -- What a function of the plan answers of one move.
 use mathlib.Core.List.{List, [], _∷_}
-use Prim.Native.Nat.{ℕ, _+_, _*_, _≤_, _<_}
+use Prim.Native.Nat.{ℕ, _+_, _<_}
 use Rattle.method.specs.Graph.{Move, move}
 use Rattle.plan.specs.declared.Reach.{Reach}
 use Rattle.plan.specs.declared.Reach.the-variants.{Shut, To}

@@ -5,7 +5,7 @@ use mathlib.Core.List.{List}
 use Prim.Native.Nat.{ℕ, _-_, _/_, _≤_, _<_}
 use native.Mathlib.Omega.{arith}
 use lib.Dec.{eqb}
-use lib.ListN.{getD, length}
+use lib.ListN.{getD}
 use borrow.Author.Tests.{not-true}
 use Rattle.decide.specs.Decides.{Decides}
 use Rattle.decide.proofs.DecideLaws.{decides-yes, decides-no, decides-eq}
