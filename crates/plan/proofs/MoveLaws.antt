@@ -166,12 +166,20 @@ module _ (p : Plan) (O : Obeys p) (s d : ℕ) (ls : s < cells p) (ld : d < 4) wh
       back : entered (p .width) (entered (p .width) s d) (opposite d) ≡ s
       back = omega (arith, long, steps, opposes d ld .columns)
 
-  pub into-open : p .width + 1 ≤ s + rowStep d * p .width + columnStep d → entered (p .width) s d < cells p → byte p (entered (p .width) s d) (opposite d) ≢ shut
+  entered-open : p .width + 1 ≤ s + rowStep d * p .width + columnStep d → entered (p .width) s d < cells p → byte p (entered (p .width) s d) (opposite d) ≢ shut
       → move (d + 1) (entered (p .width) s d) (byte p (entered (p .width) s d) (opposite d)) ∷ [] ≡ intoBy p s d
   unfolding intoBy
-  into-open long inside n =
+  entered-open long inside n =
       one (stays (p .width) (p .height) s d) (isCost (byte p (entered (p .width) s d) (opposite d))) _ (neighbour-stays long inside n)
       (cost-of (O .bytes (entered (p .width) s d) (opposite d) inside (opposes d ld .small)) n)
+
+  -- u is the cell that the sum names, `toward` the direction from there to s
+  module _ {u toward : ℕ} (named : u ≡ entered (p .width) s d) (back : toward ≡ opposite d) where
+    pub into-closed : byte p u toward ≡ shut → [] ≡ intoBy p s d
+    into-closed e = into-shut (λ _. rw (named, back) at e)
+
+    pub into-open : p .width + 1 ≤ s + rowStep d * p .width + columnStep d → u < cells p → byte p u toward ≢ shut → move (d + 1) u (byte p u toward) ∷ [] ≡ intoBy p s d
+    into-open long inside n = rw (named, back) (entered-open long (rw named at inside) (rw (named, back) at n))
 
 -- each byte is that of some cell and direction
 pub byte-of : (p : Plan) → Bytes p → (i : ℕ) → i < 4 * cells p → IsByte (getD (p .bytes) i 0)

@@ -7,10 +7,10 @@ use Rattle.plan.specs.declared.Reach.the-variants.{Shut, To}
 use Rattle.plan.specs.declared.Spot.{Spot}
 use Rattle.plan.specs.Cells.{Stands, apart}
 
--- No open move, or the one to (or from) a cell at a cost; k is its parent code.
-abbrev pub listed : ℕ → Reach → List Move
-listed k Shut = []
-listed k (To v c) = move k v c ∷ []
+-- No open move, or the one with parent code k to (or from) cell v at cost c.
+abbrev pub listed : Reach → List Move
+listed Shut = []
+listed (To k v c) = move k v c ∷ []
 
 -- Cell s stands at a spot.
 abbrev pub At : ℕ → ℕ → Spot → Type 0

@@ -9,10 +9,16 @@ ghost use Rattle.plan.specs.Costs.{IsByte, planOf, Bytes, Edge, Edges, O
 ghost use Rattle.plan.specs.Grid.{outBy, intoBy};
 ghost use Rattle.plan.specs.Reached.{listed, At, Placed, between};
 
-// A direction's step in rows and in columns, each plus 1.
+// The byte of a shut move.
+pub const SHUT: u8 = 255;
+
+// The greatest cost of a move.
+pub const MOST_COST: u8 = 250;
+
+// A direction's step in rows and in columns, each plus 1. A byte each, so that a read of the table is one store: with words it is built anew on the stack.
 pub struct Shift {
-    pub row: usize,
-    pub column: usize,
+    pub row: u8,
+    pub column: u8,
 }
 
 // North, east, south, west.
@@ -29,6 +35,22 @@ pub fn shift_of(d: usize) -> Shift
     ensures { λ r. ⌜ r ≡ shiftOf d ⌝ }
 {
     SHIFTS[d]
+}
+
+// The direction that leads back.
+pub fn back(d: usize) -> usize
+    requires { ⌜ d < 4 ⌝ }
+    ensures { λ r. ⌜ r ≡ opposite d ⌝ }
+{
+    (d + 2) % 4
+}
+
+// The parent code of the way back, which a move in direction d gives to the cell that it enters.
+pub fn back_code(d: usize) -> u8
+    requires { ⌜ d < 4 ⌝ }
+    ensures { λ r. ⌜ r ≡ opposite d + 1 ⌝ }
+{
+    (back(d) + 1) as u8
 }
 
 // Are width and height each 1 to 64?
@@ -109,8 +131,8 @@ pub fn moved(at: Spot, d: usize) -> Spot
 {
     let shift = shift_of(d);
     Spot {
-        row: at.row + shift.row - 1,
-        column: at.column + shift.column - 1,
+        row: at.row + shift.row as usize - 1,
+        column: at.column + shift.column as usize - 1,
     }
 }
 
@@ -121,7 +143,7 @@ pub fn entered(width: usize, cell: usize, d: usize) -> usize
     ensures { λ r. ⌜ r ≡ enteredBy width cell d ⌝ }
 {
     let shift = shift_of(d);
-    cell + shift.row * width + shift.column - (width + 1)
+    cell + shift.row as usize * width + shift.column as usize - (width + 1)
 }
 
 // The difference of two numbers.
@@ -150,55 +172,57 @@ pub fn is_byte(b: u8) -> bool
     if b == 0 {
         return false;
     }
-    if b <= 250 {
+    if b <= MOST_COST {
         return true;
     }
-    b == 255
+    b == SHUT
 }
 
-// An open move's other end and its cost, if it is open.
+// A move, if it is open: the parent code that it gives, the cell at its other end, its cost.
 pub enum Reach {
     Shut,
-    To(usize, u8),
+    To(u8, usize, u8),
 }
 
 // The open move out of cell u in direction d. A move that would leave an obedient plan is shut, so its byte alone tells.
 pub fn move_out(width: usize, height: usize, plan: &[u8], u: usize, d: usize) -> Reach
     requires { ⌜ Obeys (planOf width height (now plan)) ⌝ }
     requires { ⌜ (u < height * width) × (d < 4) ⌝ }
-    ensures { λ r. ⌜ listed (opposite d + 1) r ≡ outBy (planOf width height (now (plan .entry))) u d ⌝ }
+    ensures { λ r. ⌜ listed r ≡ outBy (planOf width height (now (plan .entry))) u d ⌝ }
 {
     let cost = plan[4 * u + d];
-    if cost == 255 {
+    if cost == SHUT {
         return Reach::Shut;
     }
-    Reach::To(entered(width, u, d), cost)
+    let v = entered(width, u, d);
+    Reach::To(back_code(d), v, cost)
 }
 
 // The open move into cell s from its neighbour in direction d. Where there is none, the cell that the sum names has a shut move here, or is no cell.
 pub fn move_into(width: usize, height: usize, plan: &[u8], s: usize, d: usize) -> Reach
     requires { ⌜ Obeys (planOf width height (now plan)) ⌝ }
     requires { ⌜ (s < height * width) × (d < 4) ⌝ }
-    ensures { λ r. ⌜ listed (d + 1) r ≡ intoBy (planOf width height (now (plan .entry))) s d ⌝ }
+    ensures { λ r. ⌜ listed r ≡ intoBy (planOf width height (now (plan .entry))) s d ⌝ }
 {
     let shift = shift_of(d);
-    let sum = s + shift.row * width + shift.column;
+    let sum = s + shift.row as usize * width + shift.column as usize;
     if sum <= width {
         return Reach::Shut;
     }
     let u = sum - (width + 1);
-    let at = 4 * u + (d + 2) % 4;
+    let toward = back(d);
+    let at = 4 * u + toward;
     if plan.len() <= at {
         return Reach::Shut;
     }
     let cost = plan[at];
-    if cost == 255 {
+    if cost == SHUT {
         return Reach::Shut;
     }
-    Reach::To(u, cost)
+    Reach::To((d + 1) as u8, u, cost)
 }
 
-// Is the byte of the move from cell u in direction d 255 if the move would leave the plan?
+// Is the move from cell u in direction d shut if it would leave the plan?
 fn edge_holds(width: usize, height: usize, plan: &[u8], u: usize, at: Spot, d: usize) -> bool
     requires { ⌜ length (now plan) ≡ 4 * (height * width) ⌝ }
     requires { ⌜ (u < height * width) × (d < 4) × (height * width ≤ 4096) ⌝ }
@@ -208,10 +232,10 @@ fn edge_holds(width: usize, height: usize, plan: &[u8], u: usize, at: Spot, d: u
     if stays_in(width, height, at, d) {
         return true;
     }
-    plan[4 * u + d] == 255
+    plan[4 * u + d] == SHUT
 }
 
-// Has every move that would leave the plan byte 255? The walk is left at the first cell and direction at fault.
+// Is every move that would leave the plan shut? The walk is left at the first cell and direction at fault.
 pub fn edges_hold(width: usize, height: usize, plan: &[u8]) -> bool
     requires { ⌜ Size width height ⌝ }
     requires { ⌜ length (now plan) ≡ 4 * (height * width) ⌝ }

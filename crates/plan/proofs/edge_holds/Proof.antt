@@ -1,3 +1,4 @@
+-- A move that stays in the plan may have any byte; of one that would leave it the byte is compared.
 use borrow.Author.Needs.{needs}
 use Rattle.decide.proofs.DecideLaws.{decides-yes, decides-eq, refuted}
 use Rattle.plan.proofs.edge_holds.Statement.{statement}

@@ -1,3 +1,4 @@
+-- The plain sums of the definition, by the table; each step is at most 2, so no sum wraps.
 use borrow.Author.Needs.{needs}
 use native.Mathlib.Omega.{arith}
 use Rattle.plan.proofs.DirectionLaws.{opposes}
@@ -8,11 +9,17 @@ use Rattle.plan.proofs.entered.Tie as tie
 shift-of-requires : tie.Need-shift-of-requires
 shift-of-requires c κs = search needs
 
+cast-result : tie.Need-cast-result
+cast-result c = search needs
+
 mul-result : tie.Need-mul-result
 mul-result c = rw (c .before .shift-of .ensures) (omega (arith, row-part _ _ (c .before .before .pre .1 .0) (c .before .before .pre .0)))
 
 add-result : tie.Need-add-result
 add-result c = rw (c .before .shift-of .ensures) (omega (arith, row-part _ _ (c .before .before .pre .1 .0) (c .before .before .pre .0)))
+
+cast-result-2 : tie.Need-cast-result-2
+cast-result-2 c = search needs
 
 add-result-2 : tie.Need-add-result-2
 add-result-2 c = rw (c .before .before .shift-of .ensures) (omega (arith, row-part _ _ (c .before .before .before .pre .1 .0) (c .before .before .before .pre .0), opposes _ (c .before .before .before .pre .0) .columns))
@@ -29,4 +36,4 @@ returns c = rw (c .before .before .shift-of .ensures) (search needs)
 pub entered-spec : {M : Type 1} → statement M
 entered-spec =
     tie.close
-    (tie.spec shift-of-requires mul-result add-result add-result-2 add-result-3 sub-result returns)
+    (tie.spec shift-of-requires cast-result mul-result add-result cast-result-2 add-result-2 add-result-3 sub-result returns)

@@ -1,3 +1,4 @@
+-- The four tests are the four bounds.
 use native.Mathlib.Omega.{arith}
 use Rattle.decide.proofs.DecideLaws.{decides-no, decides-le}
 use Rattle.plan.proofs.is_size.Statement.{statement}

@@ -1,12 +1,47 @@
+-- By what the sum names (MoveLaws): no cell, or one whose byte towards s is shut, and there is no open move; else it is the neighbour, and its byte is the cost.
 use borrow.Author.Needs.{needs}
+use mathlib.Core.Path.{_≡_, ap}
+use Prim.Native.Nat.{_+_, _*_, _≤_}
 use native.Mathlib.Omega.{arith}
+use Rattle.plan.specs.Directions.{rowStep, columnStep}
 use Rattle.plan.proofs.DirectionLaws.{opposes}
-use Rattle.plan.proofs.MoveLaws.{area, row-part, into-shut, into-open, sum-long, entered-in}
+use Rattle.plan.proofs.MoveLaws.{area, row-part, into-shut, into-closed, into-open, sum-long, entered-in}
 use Rattle.plan.proofs.move_into.Statement.{statement}
 use Rattle.plan.proofs.move_into.Tie as tie
 
+abbrev at-start : tie.After-struct-known2 → tie.Start
+at-start t = t .before .before .before .before
+
+abbrev after-shift-of : tie.After-struct-known2 → tie.After-shift-of
+after-shift-of t = t .before .before
+
+-- where the sum names a cell, and the direction back is known
+abbrev at-sum : tie.After-back → tie.After-struct-known2
+at-sum t = t .before .before
+
+abbrev after-back-if-shut : tie.Then3 → tie.After-back
+after-back-if-shut t = t .before .before .before
+
+abbrev after-back-if-open : tie.Else3 → tie.After-back
+after-back-if-open t = t .before .before .before
+
+-- the step is the table's, so the sum is the definition's
+sum-is : (t : tie.After-struct-known2)
+    → at-start t .args .s + after-shift-of t .shift-of .result .row * at-start t .args .width + after-shift-of t .shift-of .result .column
+    ≡ at-start t .args .s + rowStep (at-start t .args .d) * at-start t .args .width + columnStep (at-start t .args .d)
+sum-is t = ap (λ x. at-start t .args .s + x .row * at-start t .args .width + x .column) (after-shift-of t .shift-of .ensures)
+
+sum-le : (t : tie.After-struct-known2)
+    → at-start t .args .s + after-shift-of t .shift-of .result .row * at-start t .args .width + after-shift-of t .shift-of .result .column ≤ 4226
+sum-le t =
+    let p = at-start t .pre in
+    omega (arith, sum-is t, row-part _ _ (p .0 .size .narrow) (p .1 .1), p .1 .0, area (p .0 .size), opposes _ (p .1 .1) .columns)
+
 shift-of-requires : tie.Need-shift-of-requires
 shift-of-requires c κs = search needs
+
+cast-sum : tie.Need-cast-sum
+cast-sum c = search needs
 
 mul-sum : tie.Need-mul-sum
 mul-sum c =
@@ -18,16 +53,16 @@ add-sum c =
     let p = c .before .before .before .pre in
     rw (c .before .shift-of .ensures) (omega (arith, row-part _ _ (p .0 .size .narrow) (p .1 .1), p .1 .0, area (p .0 .size)))
 
+cast-sum-2 : tie.Need-cast-sum-2
+cast-sum-2 c = search needs
+
 add-sum-2 : tie.Need-add-sum-2
-add-sum-2 c =
-    let p = c .before .before .before .before .pre in
-    rw (c .before .before .shift-of .ensures) (omega (arith, row-part _ _ (p .0 .size .narrow) (p .1 .1), p .1 .0, area (p .0 .size), opposes _ (p .1 .1) .columns))
+add-sum-2 c = omega (arith, sum-le c)
 
 returns : tie.Need-returns
 returns c =
-    let p = c .before .before .before .before .before .pre in
-    let long = rw (c .before .before .before .shift-of .ensures) at (c .if1 .taken) in
-    into-shut _ (p .0) _ _ (p .1 .0) (p .1 .1) (λ m. absurd (omega (arith, long, sum-long _ (p .0) _ _ (p .1 .0) (p .1 .1) m)))
+    let p = at-start (c .before) .pre in
+    into-shut _ (p .0) _ _ (p .1 .0) (p .1 .1) (λ m. absurd (omega (arith, c .if1 .taken, sum-is (c .before), sum-long _ (p .0) _ _ (p .1 .0) (p .1 .1) m)))
 
 add-u : tie.Need-add-u
 add-u c = search needs
@@ -35,54 +70,64 @@ add-u c = search needs
 sub-u : tie.Need-sub-u
 sub-u c = search needs
 
+back-requires : tie.Need-back-requires
+back-requires c κs = at-start (c .before) .pre .1 .1
+
 mul-at : tie.Need-mul-at
-mul-at c =
-    let p = c .before .before .before .before .before .pre in
-    rw (c .before .before .before .shift-of .ensures) (omega (arith, row-part _ _ (p .0 .size .narrow) (p .1 .1), p .1 .0, area (p .0 .size), opposes _ (p .1 .1) .columns))
+mul-at c = omega (arith, sum-le (at-sum c))
 
 add-at : tie.Need-add-at
-add-at c = search needs
-
-add-at-2 : tie.Need-add-at-2
-add-at-2 c =
-    let p = c .before .before .before .before .before .pre in
-    rw (c .before .before .before .shift-of .ensures) (omega (arith, row-part _ _ (p .0 .size .narrow) (p .1 .1), p .1 .0, area (p .0 .size), opposes _ (p .1 .1) .columns, opposes _ (p .1 .1) .small))
+add-at c = omega (arith, sum-le (at-sum c), c .back .ensures)
 
 returns-2 : tie.Need-returns-2
 returns-2 c =
-    let p = c .before .before .before .before .before .before .pre in
-    let off = rw (c .before .before .before .before .shift-of .ensures) at (c .if2 .taken) in
-    into-shut _ (p .0) _ _ (p .1 .0) (p .1 .1) (λ m. absurd (omega (arith, off, p .0 .sized, entered-in _ (p .0) _ _ (p .1 .0) (p .1 .1) m, opposes _ (p .1 .1) .small)))
+    let t = at-sum (c .before) in
+    let p = at-start t .pre in
+    into-shut _ (p .0) _ _ (p .1 .0) (p .1 .1)
+    (λ m. absurd (omega (arith, c .if2 .taken, sum-is t, c .before .back .ensures, p .0 .sized, entered-in _ (p .0) _ _ (p .1 .0) (p .1 .1) m)))
 
 shared-slice-read-cost : tie.Need-shared-slice-read-cost
 shared-slice-read-cost c = search needs
 
 returns-3 : tie.Need-returns-3
 returns-3 c =
-    let p = c .before .before .before .before .before .before .before .before .pre in
-    into-shut _ (p .0) _ _ (p .1 .0) (p .1 .1) (λ m. rw (c .before .before .before .before .before .before .shift-of .ensures) at (c .if3 .taken))
+    let b = after-back-if-shut c in
+    let t = at-sum b in
+    let p = at-start t .pre in
+    into-closed _ (p .0) _ _ (p .1 .0) (p .1 .1) (omega (arith, sum-is t)) (b .back .ensures) (c .if3 .taken)
+
+add-t15 : tie.Need-add-t15
+add-t15 c = search needs
+
+cast-t18 : tie.Need-cast-t18
+cast-t18 c = search needs
 
 returns-4 : tie.Need-returns-4
 returns-4 c =
-    let p = c .before .before .before .before .before .before .before .before .pre in
-    let e = c .before .before .before .before .before .before .shift-of .ensures in
-    rw e (into-open _ (p .0) _ _ (p .1 .0) (p .1 .1) (omega (arith, rw e at (c .before .before .before .if1 .left))) (omega (arith, rw e at (c .before .before .if2 .left), p .0 .sized)) (rw e at (c .if3 .left)))
+    let b = after-back-if-open c in
+    let t = at-sum b in
+    let p = at-start t .pre in
+    into-open _ (p .0) _ _ (p .1 .0) (p .1 .1) (omega (arith, sum-is t)) (b .back .ensures) (omega (arith, b .before .if1 .left, sum-is t)) (omega (arith, c .before .before .if2 .left, p .0 .sized)) (c .if3 .left)
 
 pub move-into-spec : {M : Type 1} → statement M
 move-into-spec =
     tie.close
     (tie.spec
     shift-of-requires
+    cast-sum
     mul-sum
     add-sum
+    cast-sum-2
     add-sum-2
     returns
     add-u
     sub-u
+    back-requires
     mul-at
     add-at
-    add-at-2
     returns-2
     shared-slice-read-cost
     returns-3
+    add-t15
+    cast-t18
     returns-4)

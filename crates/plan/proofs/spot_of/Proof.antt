@@ -1,3 +1,4 @@
+-- Quotient and remainder: the column is what the rows before leave of the cell number.
 use borrow.Author.Needs.{needs}
 use native.Mathlib.Nat.{div-add-mod', mod-lt}
 use native.Mathlib.Omega.{arith}

@@ -1,3 +1,4 @@
+-- A direction can leave the plan on one side only, and that side is tested (`stays-up` to `stays-right` in MoveLaws).
 use borrow.Author.Needs.{needs}
 use mathlib.Core.Path.{ap, sym, _∙_}
 use Rattle.plan.proofs.MoveLaws.{stays-up, stays-down, stays-left, stays-right}
