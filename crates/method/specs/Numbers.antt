@@ -21,6 +21,10 @@ mostEstimate = 126
 abbrev pub mostSearches : ℕ
 mostSearches = 1000
 
+-- "If the search number is 1,000, start fresh"
+abbrev pub renewal : ℕ
+renewal = 1000
+
 -- "a search raises the greatest finite number by at most 250 × 4,097 = 1,024,250"
 abbrev pub growth : ℕ
 growth = 1024250

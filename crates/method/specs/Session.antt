@@ -5,7 +5,7 @@ use Prim.Native.Nat.{ℕ, zero, suc, _+_, _-_, _*_}
 use native.Mathlib.Decide.{ℕ-discrete, decLt}
 use lib.ListN.{length, getD, set, replicate}
 use Rattle.decide.specs.Choose.{choose}
-use Rattle.method.specs.Numbers.{infinite, mostSearches}
+use Rattle.method.specs.Numbers.{infinite, renewal}
 use Rattle.method.specs.Graph.{Move, Graph, Hunt}
 use Rattle.method.specs.Tables.{Tables, gAt, rhsAt, parentAt, withRhs, setRight, foundAnew}
 use Rattle.method.specs.Loop.{Step, Ran, run}
@@ -77,7 +77,7 @@ handedOver H T old =
 -- "If the search number is 1,000, start fresh. Else take over the target. Then, only if the hunter changed, take it over: if the new hunter's rhs is infinite, start fresh; else .."
 unfoldable pub takenOver : Graph → Session → Tables → State
 takenOver G σ T =
-    choose (ℕ-discrete (σ .searches) mostSearches) (freshStart G (σ .hunter) (σ .target))
+    choose (ℕ-discrete (σ .searches) renewal) (freshStart G (σ .hunter) (σ .target))
     (choose (ℕ-discrete (σ .hunter) (σ .origin)) (record { session = targetTaken G σ; tables = T })
     (choose (ℕ-discrete (rhsAt T (σ .hunter)) infinite) (freshStart G (σ .hunter) (σ .target))
     (record {

@@ -6,7 +6,7 @@ use native.Mathlib.Omega.{arith}
 use native.Mathlib.Decide.{ℕ-discrete}
 use lib.ListN.{getD, length, set, length-set}
 use Rattle.decide.proofs.ChooseLaws.{choose-yes, choose-no}
-use Rattle.method.specs.Numbers.{infinite, mostSearches}
+use Rattle.method.specs.Numbers.{infinite, renewal}
 use Rattle.method.specs.Tables as method
 use Rattle.method.specs.Session as calls
 use Rattle.method.proofs.Readying.{handedOver-sized}
@@ -126,16 +126,16 @@ module _ {s : Session} {t : Tables} (S : Sound s t) where
       })
 
   module _ {r : Session} {t′ : Tables} where
-    pub taken-late : s .searches ≡ 1000 → (r ≡ begun (s .width) (s .height) (s .hunter) (s .target)) × Opened (s .width) (s .height) (s .hunter) (s .target) t t′ → Takes s t r t′
+    pub taken-late : s .searches ≡ renewal → (r ≡ begun (s .width) (s .height) (s .hunter) (s .target)) × Opened (s .width) (s .height) (s .hunter) (s .target) t t′ → Takes s t r t′
     unfolding calls.takenOver
-    taken-late e B = record { holds = subst (λ m. Holds s m r t′) (sym (choose-yes (ℕ-discrete (s .searches) mostSearches) _ _ e)) (begun-holds B); untouched = λ _ n. absurd (n e); kept = λ n _. absurd (n e) }
+    taken-late e B = record { holds = subst (λ m. Holds s m r t′) (sym (choose-yes (ℕ-discrete (s .searches) renewal) _ _ e)) (begun-holds B); untouched = λ _ n. absurd (n e); kept = λ n _. absurd (n e) }
 
-    module _ (early : s .searches ≢ 1000) where
+    module _ (early : s .searches ≢ renewal) where
       pub taken-same : s .hunter ≡ s .origin → r ≡ aimedAnew s → t′ ≡ t → Takes s t r t′
       unfolding calls.takenOver
       taken-same e er et = record {
         holds =
-            subst (λ m. Holds s m r t′) (sym (choose-no (ℕ-discrete (s .searches) mostSearches) _ _ early ∙ choose-yes (ℕ-discrete (s .hunter) (s .origin)) _ _ e))
+            subst (λ m. Holds s m r t′) (sym (choose-no (ℕ-discrete (s .searches) renewal) _ _ early ∙ choose-yes (ℕ-discrete (s .hunter) (s .origin)) _ _ e))
             (subst (λ x. Holds s (record { session = calls.targetTaken (graph s t) (session s); tables = core t }) x t′) (sym er)
             (subst (λ x. Holds s (record { session = calls.targetTaken (graph s t) (session s); tables = core t }) (aimedAnew s) x) (sym et)
             (record { wide = refl; high = refl; record-is = refl; tables-are = refl; heap = S .heap })));
@@ -149,7 +149,7 @@ module _ {s : Session} {t : Tables} (S : Sound s t) where
       taken-far n e B = record {
         holds =
             subst (λ m. Holds s m r t′)
-            (sym (choose-no (ℕ-discrete (s .searches) mostSearches) _ _ early ∙ choose-no (ℕ-discrete (s .hunter) (s .origin)) _ _ n ∙ choose-yes (ℕ-discrete (getD (t .rhs) (s .hunter) 0) infinite) _ _ e))
+            (sym (choose-no (ℕ-discrete (s .searches) renewal) _ _ early ∙ choose-no (ℕ-discrete (s .hunter) (s .origin)) _ _ n ∙ choose-yes (ℕ-discrete (getD (t .rhs) (s .hunter) 0) infinite) _ _ e))
             (begun-holds B);
         untouched = λ h _. absurd (n h);
         kept = λ _ f. absurd (f e);
@@ -162,7 +162,7 @@ module _ {s : Session} {t : Tables} (S : Sound s t) where
         holds =
             let h = subst (λ x. Holds x (handOver x t) r t′) e H in
             subst (λ m. Holds s m r t′)
-            (sym (choose-no (ℕ-discrete (s .searches) mostSearches) _ _ early ∙ choose-no (ℕ-discrete (s .hunter) (s .origin)) _ _ n ∙ choose-no (ℕ-discrete (getD (t .rhs) (s .hunter) 0) infinite) _ _ f))
+            (sym (choose-no (ℕ-discrete (s .searches) renewal) _ _ early ∙ choose-no (ℕ-discrete (s .hunter) (s .origin)) _ _ n ∙ choose-no (ℕ-discrete (getD (t .rhs) (s .hunter) 0) infinite) _ _ f))
             (record { wide = h .wide; high = h .high; record-is = h .record-is; tables-are = h .tables-are; heap = h .heap });
         untouched = λ h _. absurd (n h);
         kept = λ _ _. subst (λ (x : Session). EntryKept (x .count) (t .k1) (t .k2) (t .place) (t .list) (r .count) (t′ .k1) (t′ .k2) (t′ .place) (t′ .list)) e K;

@@ -3,7 +3,7 @@ use mathlib.Core.Path.{_≡_}
 use mathlib.Core.Logic.{_≢_}
 use Prim.Native.Nat.{_+_, _≤_, _<_}
 use lib.ListN.{getD}
-use Rattle.method.specs.Numbers.{infinite, mostSearches}
+use Rattle.method.specs.Numbers.{infinite, renewal}
 use Rattle.method.specs.Tables.{Sized}
 use Rattle.method.specs.Session.{State, huntOf, hunterTaken, handedOver, takenOver}
 use Rattle.queue.specs.Queue.{Heap, EntryKept}
@@ -25,8 +25,8 @@ pub record Holds (s : Session) (m : State) (r : Session) (t : Tables) : Type 0 w
 -- where a hunter with a finite rhs is taken over and the old hunter's entry, found anew, is what it was, list and places stay.
 pub record Takes (s : Session) (t : Tables) (r : Session) (t′ : Tables) : Type 0 where
   pub holds : Holds s (takenOver (graph s t) (session s) (core t)) r t′
-  pub untouched : s .hunter ≡ s .origin → s .searches ≢ mostSearches → (r .count ≡ s .count) × (t′ ≡ t)
-  pub kept : s .searches ≢ mostSearches → getD (t .rhs) (s .hunter) 0 ≢ infinite
+  pub untouched : s .hunter ≡ s .origin → s .searches ≢ renewal → (r .count ≡ s .count) × (t′ ≡ t)
+  pub kept : s .searches ≢ renewal → getD (t .rhs) (s .hunter) 0 ≢ infinite
       → EntryKept (s .count) (t .k1) (t .k2) (t .place) (t .list) (r .count) (t′ .k1) (t′ .k2) (t′ .place) (t′ .list)
 
 -- The target can be taken over: both targets are in the plan, and km leaves room for one more estimate.

@@ -9,6 +9,9 @@ ghost use Rattle.tables.specs.Lent.{given, before, after};
 ghost use Rattle.tables.specs.Sound.{Sound};
 ghost use Rattle.take_over.specs.TakeOver.{aimedAnew, handOver, Aiming, Handing, Holds, Takes};
 
+// The search number at which a search starts fresh, so that no number grows without end.
+const RENEWAL: u32 = 1000;
+
 // The target taken over: km grows by the estimate between old and new target.
 fn target_taken(s: Session) -> Session
     requires { ⌜ Aiming s ⌝ }
@@ -61,7 +64,7 @@ fn hand_over(
     t
 }
 
-// Target and hunter taken over, or a fresh start: after 1,000 searches, and where the new hunter's rhs is infinite.
+// Target and hunter taken over, or a fresh start: at the renewal, and where the new hunter's rhs is infinite.
 pub fn take_over(
     s: Session,
     plan: &[u8],
@@ -76,7 +79,7 @@ pub fn take_over(
     requires { ⌜ Sound s (given plan g rhs parent k1 k2 place list) ⌝ }
     ensures { λ r. ⌜ Takes s (before plan g rhs parent k1 k2 place list) r (after plan g rhs parent k1 k2 place list) ⌝ }
 {
-    if s.searches == 1000 {
+    if s.searches == RENEWAL {
         return entries::begin(
             s.width,
             s.height,
