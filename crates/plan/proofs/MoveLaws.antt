@@ -15,7 +15,7 @@ use Rattle.plan.specs.Directions.{rowStep, columnStep, opposite}
 use Rattle.plan.specs.Cells.{Size, row, column, Stands, Stays, stays, entered}
 use Rattle.plan.specs.Costs.{Plan, cells, byte, shut, IsCost, isCost, IsByte, Bytes, Obeys}
 use Rattle.plan.specs.Grid.{outBy, intoBy}
-use Rattle.plan.specs.Reached.{At}
+use Rattle.plan.specs.Reached.{At, Placed}
 use Rattle.plan.specs.declared.Spot.{Spot}
 use Rattle.plan.proofs.DirectionLaws.{opposes}
 use Rattle.plan.proofs.CellLaws.{stands, stands-row, stands-column, row-lt, entered-sum, enters, stays-back}
@@ -30,6 +30,9 @@ area z = mul-le-mul (z .low) (z .narrow)
 -- a cell of the plan stands at one of its spots
 pub placed : {width height s r c : ℕ} → Size width height → Stands width s r c → s < height * width → (r < 64) × (c < 64)
 placed {width} {height} {s} z a l = (omega (arith, stands-row a, row-lt {width = width} {height = height} {s = s} (z .wide) l, z .low), omega (arith, a .column-lt, z .narrow))
+
+pub spot-placed : {width height s : ℕ} {at : Spot} → Size width height → At width s at → s < height * width → Placed at
+spot-placed z a l = let p = placed z a l in record { row = p .0; column = p .1 }
 
 -- a step neither up nor down
 level : (d : ℕ) → d < 4 → rowStep d ≢ 0 → rowStep d ≢ 2 → rowStep d ≡ 1

@@ -1,6 +1,9 @@
 -- What a function of the plan answers of one move.
+use mathlib.Core.Path.{_≡_}
 use mathlib.Core.List.{List, [], _∷_}
-use Prim.Native.Nat.{ℕ, _+_, _<_}
+use Prim.Native.Nat.{ℕ, _+_, _*_, _≤_, _<_}
+use lib.ListN.{length}
+use Rattle.method.specs.Numbers.{mostCells}
 use Rattle.method.specs.Graph.{Move, move}
 use Rattle.plan.specs.declared.Reach.{Reach}
 use Rattle.plan.specs.declared.Reach.the-variants.{Shut, To}
@@ -20,6 +23,15 @@ At width s at = Stands width s (at .row) (at .column)
 pub record Placed (at : Spot) : Type 0 where
   pub row : at .row < 64
   pub column : at .column < 64
+
+-- The move in direction d from cell u, which stands at a spot, can be looked up.
+pub record EdgeAsked (width height : ℕ) (bytes : List ℕ) (u : ℕ) (at : Spot) (d : ℕ) : Type 0 where
+  pub sized : length bytes ≡ 4 * (height * width)
+  pub few : height * width ≤ mostCells
+  pub inside : u < height * width
+  pub direction : d < 4
+  pub placed : Placed at
+  pub here : At width u at
 
 -- The estimate between two spots.
 abbrev pub between : Spot → Spot → ℕ

@@ -3,11 +3,12 @@ ghost use mathlib.Core.Path.{_≡_};
 ghost use Prim.Native.Nat.{ℕ, _+_, _*_, _<_, _≤_};
 ghost use lib.ListN.{length};
 ghost use Rattle.decide.specs.Decides.{Decides};
+ghost use Rattle.method.specs.Numbers.{mostCells};
 ghost use Rattle.plan.specs.Directions.{shiftOf, rowStep, columnStep, opposite};
 ghost use Rattle.plan.specs.Cells.{Size, Stays, apart, entered as enteredBy};
 ghost use Rattle.plan.specs.Costs.{IsByte, planOf, Bytes, Edge, Edges, Obeys};
 ghost use Rattle.plan.specs.Grid.{outBy, intoBy};
-ghost use Rattle.plan.specs.Reached.{listed, At, Placed, between};
+ghost use Rattle.plan.specs.Reached.{listed, At, Placed, EdgeAsked, between};
 
 // The byte of a shut move.
 pub const SHUT: u8 = 255;
@@ -139,7 +140,7 @@ pub fn moved(at: Spot, d: usize) -> Spot
 // The cell that a move enters which stays in the plan.
 pub fn entered(width: usize, cell: usize, d: usize) -> usize
     requires { ⌜ d < 4 ⌝ }
-    requires { ⌜ (width ≤ 64) × (cell < 4096) × (width + 1 ≤ cell + rowStep d * width + columnStep d) ⌝ }
+    requires { ⌜ (width ≤ 64) × (cell < mostCells) × (width + 1 ≤ cell + rowStep d * width + columnStep d) ⌝ }
     ensures { λ r. ⌜ r ≡ enteredBy width cell d ⌝ }
 {
     let shift = shift_of(d);
@@ -224,9 +225,7 @@ pub fn move_into(width: usize, height: usize, plan: &[u8], s: usize, d: usize) -
 
 // Is the move from cell u in direction d shut if it would leave the plan?
 fn edge_holds(width: usize, height: usize, plan: &[u8], u: usize, at: Spot, d: usize) -> bool
-    requires { ⌜ length (now plan) ≡ 4 * (height * width) ⌝ }
-    requires { ⌜ (u < height * width) × (d < 4) × (height * width ≤ 4096) ⌝ }
-    requires { ⌜ Placed at × At width u at ⌝ }
+    requires { ⌜ EdgeAsked width height (now plan) u at d ⌝ }
     ensures { λ r. ⌜ Decides r (Edge (planOf width height (now (plan .entry))) u d) ⌝ }
 {
     if stays_in(width, height, at, d) {

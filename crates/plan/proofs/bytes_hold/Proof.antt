@@ -46,8 +46,12 @@ returns c =
 
 returns-2 : tie.Need-returns-2 Inv-bytes μ-bytes
 returns-2 c =
-    let a = c .before .before .before .before .before .before .args in
-    decides-no (λ B. refuted (c .before .is-byte .ensures) (not-true _ (c .if1 .taken)) (byte-of (planOf (a .width) (a .height) (a .plan .now)) B (c .before .before .before .before .bytes .i) (omega (arith, c .before .before .before .before .before .before .pre, c .before .before .before .bytes-test .taken))))
+    let i = c .before .before .before in
+    let s = i .before .before .before in
+    let a = s .args in
+    decides-no (λ B.
+    refuted (c .before .is-byte .ensures) (not-true _ (c .if1 .taken))
+    (byte-of (planOf (a .width) (a .height) (a .plan .now)) B (i .before .bytes .i) (omega (arith, s .pre, i .bytes-test .taken))))
 
 pub bytes-hold-spec : {M : Type 1} → statement M
 bytes-hold-spec =

@@ -5,12 +5,12 @@ use Rattle.plan.proofs.edge_holds.Statement.{statement}
 use Rattle.plan.proofs.edge_holds.Tie as tie
 
 stays-in-requires : tie.Need-stays-in-requires
-stays-in-requires c κs = search needs
+stays-in-requires c κs = let p = c .before .pre in (p .direction, p .placed)
 
 returns : tie.Need-returns
 returns c =
     let p = c .before .before .before .pre in
-    decides-yes (λ n. absurd (n (c .before .stays-in .ensures _ (p .1 .1 .1) (p .1 .0 .0) .so (c .if1 .taken))))
+    decides-yes (λ n. absurd (n (c .before .stays-in .ensures _ (p .here) (p .inside) .so (c .if1 .taken))))
 
 mul-result : tie.Need-mul-result
 mul-result c = search needs
@@ -24,7 +24,7 @@ shared-slice-read-result c = search needs
 returns-2 : tie.Need-returns-2
 returns-2 c =
     let p = c .before .before .before .before .pre in
-    let n = refuted (c .before .before .stays-in .ensures _ (p .1 .1 .1) (p .1 .0 .0)) (c .before .if1 .left) in
+    let n = refuted (c .before .before .stays-in .ensures _ (p .here) (p .inside)) (c .before .if1 .left) in
     decides-eq _ _ (λ e m. e) (λ e. e n)
 
 pub edge-holds-spec : {M : Type 1} → statement M

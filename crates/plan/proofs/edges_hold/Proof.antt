@@ -8,7 +8,7 @@ use native.Mathlib.Omega.{arith}
 use Rattle.decide.proofs.DecideLaws.{decides-yes, decides-no, refuted}
 use Rattle.plan.specs.Costs.{planOf, Edge}
 use Rattle.plan.specs.Reached.{At}
-use Rattle.plan.proofs.MoveLaws.{area, placed}
+use Rattle.plan.proofs.MoveLaws.{area, spot-placed}
 use Rattle.plan.proofs.edges_hold.Statement.{statement}
 use Rattle.plan.proofs.edges_hold.Tie as tie
 
@@ -25,6 +25,9 @@ Inv-cells width height plan cells at₀ ok₀ u₀ at ok u =
 abbrev μ-cells : tie.MeasureT-cells
 μ-cells width height plan cells at₀ ok₀ u₀ at ok u = cells - u
 
+abbrev at-start : tie.In-cells Inv-loop μ-loop Inv-cells μ-cells → tie.Start Inv-loop μ-loop Inv-cells μ-cells
+at-start t = t .before .before .before
+
 mul-cells : tie.Need-mul-cells Inv-loop μ-loop Inv-cells μ-cells
 mul-cells c = omega (arith, area (c .before .pre .0))
 
@@ -36,11 +39,17 @@ loop-holds c = (omega arith, c .before .cells .inv .1, λ e l. absurd (omega ari
 
 edge-holds-requires : tie.Need-edge-holds-requires Inv-loop μ-loop Inv-cells μ-cells
 edge-holds-requires c κs =
-    let p = c .before .before .before .before .before .pre in
-    let a = c .before .before .before .cells .inv .2 in
-    let l = c .before .before .cells-test .taken in
-    let q = placed (p .0) a l in
-    (p .1, ((l, c .loop-test .taken, area (p .0)), (record { row = q .0; column = q .1 }, a)))
+    let u = c .before .before in
+    let p = at-start u .pre in
+    let a = u .before .cells .inv .2 in
+    record {
+      sized = p .1;
+      few = area (p .0);
+      inside = u .cells-test .taken;
+      direction = c .loop-test .taken;
+      placed = spot-placed (p .0) a (u .cells-test .taken);
+      here = a;
+    }
 
 add-d : tie.Need-add-d Inv-loop μ-loop Inv-cells μ-cells
 add-d c = omega arith
@@ -55,21 +64,24 @@ loop-again c =
 
 onward-requires : tie.Need-onward-requires Inv-loop μ-loop Inv-cells μ-cells
 onward-requires c κs =
-    let p = c .before .before .before .before .before .pre in
-    let a = c .before .before .before .cells .inv .2 in
-    (placed (p .0) a (c .before .before .cells-test .taken) .0, a .column-lt, p .0 .narrow)
+    let u = c .before .before in
+    let z = at-start u .pre .0 in
+    let a = u .before .cells .inv .2 in
+    (spot-placed z a (u .cells-test .taken) .row, a .column-lt, z .narrow)
 
 add-u : tie.Need-add-u Inv-loop μ-loop Inv-cells μ-cells
-add-u c = omega (arith, c .before .before .before .cells-test .taken, area (c .before .before .before .before .before .before .pre .0))
+add-u c = let u = c .before .before .before in omega (arith, u .cells-test .taken, area (at-start u .pre .0))
 
 cells-less : tie.Need-cells-less Inv-loop μ-loop Inv-cells μ-cells
 cells-less c = omega (arith, c .before .before .before .cells-test .taken)
 
 cells-again : tie.Need-cells-again Inv-loop μ-loop Inv-cells μ-cells
 cells-again c =
-    let i = c .before .before .before .before .cells .inv in
-    let j = c .before .before .loop .inv in (
-      omega (arith, c .before .before .before .cells-test .taken),
+    let l = c .before .before in
+    let u = l .before in
+    let i = u .before .cells .inv in
+    let j = l .loop .inv in (
+      omega (arith, u .cells-test .taken),
       j .1,
       c .onward .ensures _ (i .2),
       below-more _ _ (i .3) (λ d q. j .2 d (omega (arith, c .before .loop-test .left))),
@@ -82,7 +94,8 @@ returns c =
 
 returns-2 : tie.Need-returns-2 Inv-loop μ-loop Inv-cells μ-cells
 returns-2 c =
-    decides-no (λ E. refuted (c .before .edge-holds .ensures) (not-true _ (c .if1 .taken)) (E _ _ (c .before .before .before .before .cells-test .taken) (c .before .before .loop-test .taken)))
+    let d = c .before .before in
+    decides-no (λ E. refuted (c .before .edge-holds .ensures) (not-true _ (c .if1 .taken)) (E _ _ (d .before .before .cells-test .taken) (d .loop-test .taken)))
 
 pub edges-hold-spec : {M : Type 1} → statement M
 edges-hold-spec =

@@ -9,16 +9,10 @@ use Rattle.plan.proofs.MoveLaws.{area, row-part, into-shut, into-closed
 use Rattle.plan.proofs.move_into.Statement.{statement}
 use Rattle.plan.proofs.move_into.Tie as tie
 
-abbrev at-start : tie.After-struct-known2 → tie.Start
-at-start t = t .before .before .before .before
+abbrev after-shift-of : tie.After-back → tie.After-shift-of
+after-shift-of t = t .before .before .before .before
 
-abbrev after-shift-of : tie.After-struct-known2 → tie.After-shift-of
-after-shift-of t = t .before .before
-
--- where the sum names a cell, and the direction back is known
-abbrev at-sum : tie.After-back → tie.After-struct-known2
-at-sum t = t .before .before
-
+-- where the byte towards s is shut, and where it is open
 abbrev after-back-if-shut : tie.Then3 → tie.After-back
 after-back-if-shut t = t .before .before .before
 
@@ -26,15 +20,14 @@ abbrev after-back-if-open : tie.Else3 → tie.After-back
 after-back-if-open t = t .before .before .before
 
 -- the step is the table's, so the sum is the definition's
-sum-is : (t : tie.After-struct-known2)
-    → at-start t .args .s + after-shift-of t .shift-of .result .row * at-start t .args .width + after-shift-of t .shift-of .result .column
-    ≡ at-start t .args .s + rowStep (at-start t .args .d) * at-start t .args .width + columnStep (at-start t .args .d)
-sum-is t = ap (λ x. at-start t .args .s + x .row * at-start t .args .width + x .column) (after-shift-of t .shift-of .ensures)
+sum-is : (t : tie.After-shift-of)
+    → let a = t .before .before .args in
+    a .s + t .shift-of .result .row * a .width + t .shift-of .result .column ≡ a .s + rowStep (a .d) * a .width + columnStep (a .d)
+sum-is t = let a = t .before .before .args in ap (λ x. a .s + x .row * a .width + x .column) (t .shift-of .ensures)
 
-sum-le : (t : tie.After-struct-known2)
-    → at-start t .args .s + after-shift-of t .shift-of .result .row * at-start t .args .width + after-shift-of t .shift-of .result .column ≤ 4226
+sum-le : (t : tie.After-shift-of) → let a = t .before .before .args in a .s + t .shift-of .result .row * a .width + t .shift-of .result .column ≤ 4226
 sum-le t =
-    let p = at-start t .pre in
+    let p = t .before .before .pre in
     omega (arith, sum-is t, row-part _ _ (p .0 .size .narrow) (p .1 .1), p .1 .0, area (p .0 .size), opposes _ (p .1 .1) .columns)
 
 shift-of-requires : tie.Need-shift-of-requires
@@ -44,25 +37,22 @@ cast-sum : tie.Need-cast-sum
 cast-sum c = search needs
 
 mul-sum : tie.Need-mul-sum
-mul-sum c =
-    let p = c .before .before .before .pre in
-    rw (c .before .shift-of .ensures) (omega (arith, row-part _ _ (p .0 .size .narrow) (p .1 .1)))
+mul-sum c = omega (arith, sum-le (c .before))
 
 add-sum : tie.Need-add-sum
-add-sum c =
-    let p = c .before .before .before .pre in
-    rw (c .before .shift-of .ensures) (omega (arith, row-part _ _ (p .0 .size .narrow) (p .1 .1), p .1 .0, area (p .0 .size)))
+add-sum c = omega (arith, sum-le (c .before))
 
 cast-sum-2 : tie.Need-cast-sum-2
 cast-sum-2 c = search needs
 
 add-sum-2 : tie.Need-add-sum-2
-add-sum-2 c = omega (arith, sum-le c)
+add-sum-2 c = omega (arith, sum-le (c .before .before))
 
 returns : tie.Need-returns
 returns c =
-    let p = at-start (c .before) .pre in
-    into-shut _ (p .0) _ _ (p .1 .0) (p .1 .1) (λ m. absurd (omega (arith, c .if1 .taken, sum-is (c .before), sum-long _ (p .0) _ _ (p .1 .0) (p .1 .1) m)))
+    let t = c .before .before .before in
+    let p = t .before .before .pre in
+    into-shut _ (p .0) _ _ (p .1 .0) (p .1 .1) (λ m. absurd (omega (arith, c .if1 .taken, sum-is t, sum-long _ (p .0) _ _ (p .1 .0) (p .1 .1) m)))
 
 add-u : tie.Need-add-u
 add-u c = search needs
@@ -71,18 +61,18 @@ sub-u : tie.Need-sub-u
 sub-u c = search needs
 
 back-requires : tie.Need-back-requires
-back-requires c κs = at-start (c .before) .pre .1 .1
+back-requires c κs = search needs
 
 mul-at : tie.Need-mul-at
-mul-at c = omega (arith, sum-le (at-sum c))
+mul-at c = omega (arith, sum-le (after-shift-of c))
 
 add-at : tie.Need-add-at
-add-at c = omega (arith, sum-le (at-sum c), c .back .ensures)
+add-at c = omega (arith, sum-le (after-shift-of c), c .back .ensures)
 
 returns-2 : tie.Need-returns-2
 returns-2 c =
-    let t = at-sum (c .before) in
-    let p = at-start t .pre in
+    let t = after-shift-of (c .before) in
+    let p = t .before .before .pre in
     into-shut _ (p .0) _ _ (p .1 .0) (p .1 .1)
     (λ m. absurd (omega (arith, c .if2 .taken, sum-is t, c .before .back .ensures, p .0 .sized, entered-in _ (p .0) _ _ (p .1 .0) (p .1 .1) m)))
 
@@ -92,8 +82,8 @@ shared-slice-read-cost c = search needs
 returns-3 : tie.Need-returns-3
 returns-3 c =
     let b = after-back-if-shut c in
-    let t = at-sum b in
-    let p = at-start t .pre in
+    let t = after-shift-of b in
+    let p = t .before .before .pre in
     into-closed _ (p .0) _ _ (p .1 .0) (p .1 .1) (omega (arith, sum-is t)) (b .back .ensures) (c .if3 .taken)
 
 add-t15 : tie.Need-add-t15
@@ -105,9 +95,12 @@ cast-t18 c = search needs
 returns-4 : tie.Need-returns-4
 returns-4 c =
     let b = after-back-if-open c in
-    let t = at-sum b in
-    let p = at-start t .pre in
-    into-open _ (p .0) _ _ (p .1 .0) (p .1 .1) (omega (arith, sum-is t)) (b .back .ensures) (omega (arith, b .before .if1 .left, sum-is t)) (omega (arith, c .before .before .if2 .left, p .0 .sized)) (c .if3 .left)
+    let t = after-shift-of b in
+    let p = t .before .before .pre in
+    into-open _ (p .0) _ _ (p .1 .0) (p .1 .1) (omega (arith, sum-is t)) (b .back .ensures)
+    (omega (arith, b .before .if1 .left, sum-is t))
+    (omega (arith, c .before .before .if2 .left, p .0 .sized))
+    (c .if3 .left)
 
 pub move-into-spec : {M : Type 1} → statement M
 move-into-spec =
