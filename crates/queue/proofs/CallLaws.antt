@@ -8,7 +8,7 @@ use lib.ListN.{getD, set, length, length-set}
 use lib.Seq.{getD-set-same, getD-set-other}
 use Rattle.queue.specs.Order.{before}
 use Rattle.queue.specs.Queue.{absent, members, Agree, Tables, Ordered, Heap, Changed, EntryKept, LeastOf}
-use Rattle.queue.specs.Sift.{Loose, KeepsHeap, placeAfter, listAfter}
+use Rattle.queue.specs.Sift.{Loose, KeepsHeap, Exchanges, placeAfter, listAfter}
 use Rattle.queue.proofs.CaseLaws.{split}
 use Rattle.queue.proofs.OrderLaws.{before-order, before-set}
 use Rattle.queue.proofs.HeapLaws.{Swapped, reset, grow, root}
@@ -130,8 +130,7 @@ module _ {width room count : ℕ} {k1 k2 place list : List ℕ} (h : Heap width 
     pub has-last : count ≡ count - 1 + 1
     has-last = omega (arith, here .0)
 
-    pub take-out-asks : (i < length list)
-        × ((count - 1 < length list) × ((length list ≤ absent) × ((getD list i 0 < length place) × (getD list (count - 1) 0 < length place))))
+    pub take-out-asks : Exchanges i (count - 1) place list
     take-out-asks = may-exchange (h .tables) (here .0) (omega (arith, has-last))
 
     module _ {place′ list′ : List ℕ} (ep : place′ ≡ placeAfter i (count - 1) place list) (el : list′ ≡ listAfter i (count - 1) list) where

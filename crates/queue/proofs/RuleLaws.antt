@@ -1,6 +1,7 @@
 -- The tables hold a true heap exactly if every place of the list and every cell obeys its rule.
 use mathlib.Core.Path.{_≡_, sym, ap, _∙_}
 use mathlib.Core.Bool.{Bool, true, false, not}
+use mathlib.Core.Logic.{_⊎_, inl, inr}
 use mathlib.Core.List.{List}
 use Prim.Native.Nat.{ℕ, _-_, _/_, _≤_, _<_}
 use native.Mathlib.Omega.{arith}
@@ -11,12 +12,13 @@ use Rattle.decide.specs.Decides.{Decides}
 use Rattle.decide.proofs.DecideLaws.{decides-yes, decides-no, decides-eq}
 use Rattle.queue.specs.Order.{before}
 use Rattle.queue.specs.Queue.{absent, most, Agree, Heap}
-use Rattle.queue.specs.Rules.{EntryRule, CellRule, Lengths}
+use Rattle.queue.specs.Rules.{EntryRule, AbsentRule, QueuedRule, Lengths}
 use Rattle.queue.proofs.HeapLaws.{above, above-inside}
+use Rattle.queue.proofs.PlaceLaws.{place-used}
 
 module _ {width room count : ℕ} {k1 k2 place list : List ℕ} where
   pub heap-of-rules : 0 < width → room ≤ most → count ≤ room → Lengths room k1 k2 place list
-      → ((i : ℕ) → i < room → EntryRule width room count k1 k2 place list i) → ((c : ℕ) → c < room → CellRule count k1 k2 place list c)
+      → ((i : ℕ) → i < room → EntryRule width room count k1 k2 place list i) → ((c : ℕ) → c < room → AbsentRule k1 k2 place c ⊎ QueuedRule count place list c)
       → Heap width room count k1 k2 place list
   heap-of-rules w s f l es cs = record {
     tables = record {
@@ -30,18 +32,30 @@ module _ {width room count : ℕ} {k1 k2 place list : List ℕ} where
         lengthList = l .inList;
         named = λ i d. es i (omega arith) .used d .0;
         placed = λ i d. es i (omega arith) .used d .1;
-        listed = λ c d g. cs c d .queued g;
-        gone = λ c d g. cs c d .gone g .0;
+        listed = λ c d g. listed g (cs c d);
+        gone = λ c d g. gone g (cs c d);
         unused = λ i g d. es i d .unused g;
       };
     };
-    blank = λ c d o. let g = cs c d .gone (omega arith) in (g .1, g .2);
+    blank = λ c d o. blank o (cs c d);
     ordered = record {
       holds = λ x y u d.
           let e : (y - 1) / 2 ≡ x = omega (arith, u .low, u .high) in
           rw (← e) (es y (omega arith) .above d (omega (arith, u .low)) .ordered);
     };
   }
+    where
+      listed : {c : ℕ} → getD place c 0 < count → AbsentRule k1 k2 place c ⊎ QueuedRule count place list c → getD list (getD place c 0) 0 ≡ c
+      listed l (inl a) = absurd (omega (arith, a .gone))
+      listed l (inr q) = q .named
+
+      gone : {c : ℕ} → count ≤ getD place c 0 → AbsentRule k1 k2 place c ⊎ QueuedRule count place list c → getD place c 0 ≡ absent
+      gone g (inl a) = a .gone
+      gone g (inr q) = absurd (omega (arith, q .used))
+
+      blank : {c : ℕ} → getD place c 0 ≡ absent → AbsentRule k1 k2 place c ⊎ QueuedRule count place list c → (getD k1 c 0 ≡ 0) × (getD k2 c 0 ≡ 0)
+      blank o (inl a) = (a .first, a .second)
+      blank o (inr q) = absurd (omega (arith, q .used))
 
   module _ (h : Heap width room count k1 k2 place list) where
     pub entry-rule : (i : ℕ) → i < room → EntryRule width room count k1 k2 place list i
@@ -54,14 +68,11 @@ module _ {width room count : ℕ} {k1 k2 place list : List ℕ} where
         a : Agree room count place list
         a = h .tables .agree
 
-    pub cell-rule : (c : ℕ) → c < room → CellRule count k1 k2 place list c
-    cell-rule c d = record {
-      queued = λ l. a .listed c d l;
-      gone = λ g. let o = a .gone c d g in let b = h .blank c d o in (o, b .0, b .1);
-    }
-      where
-        a : Agree room count place list
-        a = h .tables .agree
+    pub absent-rule : (c : ℕ) → c < room → getD place c 0 ≡ absent → AbsentRule k1 k2 place c
+    absent-rule c d o = let b = h .blank c d o in record { gone = o; first = b .0; second = b .1 }
+
+    pub queued-rule : (c : ℕ) → c < room → (getD place c 0 ≡ absent → ⊥) → QueuedRule count place list c
+    queued-rule c d n = let q = place-used (h .tables .agree) d n in record { used = q .0; named = q .1 }
 
 -- ---- the rules as the code tests them, return by return
 

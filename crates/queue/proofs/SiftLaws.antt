@@ -1,17 +1,23 @@
 -- The tables while one entry is on its way: what a comparison and an exchange ask, and what an exchange leaves.
 use mathlib.Core.Path.{_≡_}
+use mathlib.Core.Bool.{Bool}
 use mathlib.Core.List.{List}
-use Prim.Native.Nat.{ℕ, _≤_, _<_}
+use Prim.Native.Nat.{ℕ, _<_}
 use native.Mathlib.Omega.{arith}
-use lib.ListN.{getD, length}
-use Rattle.queue.specs.Queue.{absent, members, Tables}
-use Rattle.queue.specs.Sift.{placeAfter, listAfter, Keyed, Compares}
+use lib.ListN.{length}
+use Rattle.queue.specs.Queue.{members, Tables}
+use Rattle.queue.specs.Order.{before}
+use Rattle.queue.specs.Sift.{Sifted, Exchanges, placeAfter, listAfter, KeyedAt, Compares}
 use Rattle.queue.proofs.HeapLaws.{Swapped}
 use Rattle.queue.proofs.PlaceLaws.{list-swapped, exchange-agree, exchange-members}
 
-pub may-compare : {width count : ℕ} {k1 k2 list : List ℕ} → Compares width count k1 k2 list → {i j : ℕ} → i < count → j < count
-    → (i < length list) × ((j < length list) × (Keyed width k1 k2 (getD list i 0) (getD list j 0)))
-may-compare t {i} {j} bi bj = (omega (arith, t .long), (omega (arith, t .long), t .keyed i j bi bj))
+-- The same tables, of another shape.
+pub reshaped : {width count : ℕ} {k1 k2 place list place′ list′ : List ℕ} {P Q : (ℕ → ℕ → Bool) → Type 0} → Sifted width count k1 k2 place list place′ list′ P
+    → Q (before width k1 k2) → Sifted width count k1 k2 place list place′ list′ Q
+reshaped s q = record { tables = s .tables; membership = s .membership; shape = q; keeps = s .keeps }
+
+pub may-compare : {width count : ℕ} {k1 k2 list : List ℕ} → Compares width count k1 k2 list → {i j : ℕ} → i < count → j < count → KeyedAt width k1 k2 list i j
+may-compare t {i} {j} bi bj = record { one = omega (arith, t .long); other = omega (arith, t .long); keyed = t .keyed i j bi bj }
 
 module _ {width room count : ℕ} {k1 k2 place list : List ℕ} (t : Tables width room count k1 k2 place list) where
   pub compares : Compares width count k1 k2 list
@@ -34,8 +40,15 @@ module _ {width room count : ℕ} {k1 k2 place list : List ℕ} (t : Tables widt
   tables-as e = rw e at t
 
   module _ {i j : ℕ} (bi : i < count) (bj : j < count) where
-    pub may-exchange : (i < length list) × ((j < length list) × ((length list ≤ absent) × ((getD list i 0 < length place) × (getD list j 0 < length place))))
-    may-exchange = let p = t .agree in omega (arith, p .named i bi, p .named j bj, p .fits, p .small, p .lengthList, p .lengthPlace)
+    pub may-exchange : Exchanges i j place list
+    may-exchange = let p = t .agree in
+        record {
+          one = omega (arith, p .fits, p .lengthList);
+          other = omega (arith, p .fits, p .lengthList);
+          small = omega (arith, p .small, p .lengthList);
+          one-placed = omega (arith, p .named i bi, p .lengthPlace);
+          other-placed = omega (arith, p .named j bj, p .lengthPlace);
+        }
 
     pub exchanged : {place′ list′ : List ℕ} → place′ ≡ placeAfter i j place list → list′ ≡ listAfter i j list
         → (Tables width room count k1 k2 place′ list′) × (members place′ ≡ members place) × (Swapped i j list list′)

@@ -18,10 +18,16 @@ pub record EntryRule (width room count : ℕ) (k1 k2 place list : List ℕ) (i :
   pub above : i < count → 0 < i → Above width room k1 k2 list i
   pub unused : count ≤ i → getD list i 0 ≡ absent
 
--- Cell c: queued, it is named at its place; else it is absent and has both key numbers 0.
-pub record CellRule (count : ℕ) (k1 k2 place list : List ℕ) (c : ℕ) : Type 0 where
-  pub queued : getD place c 0 < count → getD list (getD place c 0) 0 ≡ c
-  pub gone : count ≤ getD place c 0 → (getD place c 0 ≡ absent) × (getD k1 c 0 ≡ 0) × (getD k2 c 0 ≡ 0)
+-- Cell c is absent from the queue, and both its key numbers are 0.
+pub record AbsentRule (k1 k2 place : List ℕ) (c : ℕ) : Type 0 where
+  pub gone : getD place c 0 ≡ absent
+  pub first : getD k1 c 0 ≡ 0
+  pub second : getD k2 c 0 ≡ 0
+
+-- Cell c has a used place of the list, and is named there.
+pub record QueuedRule (count : ℕ) (place list : List ℕ) (c : ℕ) : Type 0 where
+  pub used : getD place c 0 < count
+  pub named : getD list (getD place c 0) 0 ≡ c
 
 -- The four tables have a place for each of `room` cells.
 pub record Lengths (room : ℕ) (k1 k2 place list : List ℕ) : Type 0 where

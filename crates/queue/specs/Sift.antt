@@ -4,7 +4,8 @@ use mathlib.Core.Bool.{Bool, false}
 use mathlib.Core.List.{List}
 use Prim.Native.Nat.{ℕ, _≤_, _<_}
 use lib.ListN.{getD, set, length}
-use Rattle.queue.specs.Queue.{Under, Ordered}
+use Rattle.queue.specs.Order.{before}
+use Rattle.queue.specs.Queue.{absent, members, Tables, Under, Ordered}
 
 -- The list is a binary heap but for the entry at place i, which may belong higher or lower.
 pub record Loose (lt : ℕ → ℕ → Bool) (count i : ℕ) (list : List ℕ) : Type 0 where
@@ -22,6 +23,21 @@ pub record Low (lt : ℕ → ℕ → Bool) (count i : ℕ) (list : List ℕ) : T
 abbrev pub KeepsHeap : (ℕ → ℕ → Bool) → ℕ → List ℕ → List ℕ → List ℕ → List ℕ → Type 0
 KeepsHeap lt count place list place′ list′ = Ordered lt count list → (place′ ≡ place) × (list′ ≡ list)
 
+-- What moving an entry leaves of the places and the list: they agree, the same cells are queued, the list has the shape P under their order, and one that was a binary heap already is as it was.
+pub record Sifted (width count : ℕ) (k1 k2 place list place′ list′ : List ℕ) (P : (ℕ → ℕ → Bool) → Type 0) : Type 0 where
+  pub tables : Tables width (length list) count k1 k2 place′ list′
+  pub membership : members place′ ≡ members place
+  pub shape : P (before width k1 k2)
+  pub keeps : KeepsHeap (before width k1 k2) count place list place′ list′
+
+-- The entries at places i and j of the list can be exchanged: both cells have a place, and each place fits into 16 bits.
+pub record Exchanges (i j : ℕ) (place list : List ℕ) : Type 0 where
+  pub one : i < length list
+  pub other : j < length list
+  pub small : length list ≤ absent
+  pub one-placed : getD list i 0 < length place
+  pub other-placed : getD list j 0 < length place
+
 -- The two tables after the entries at places i and j were exchanged.
 abbrev pub placeAfter : ℕ → ℕ → List ℕ → List ℕ → List ℕ
 placeAfter i j place list = set (set place (getD list j 0) i) (getD list i 0) j
@@ -35,6 +51,12 @@ pub record Keyed (width : ℕ) (k1 k2 : List ℕ) (a b : ℕ) : Type 0 where
   pub lengths : length k2 ≡ length k1
   pub one : a < length k1
   pub other : b < length k1
+
+-- The entries at places i and j of the list can be compared.
+pub record KeyedAt (width : ℕ) (k1 k2 list : List ℕ) (i j : ℕ) : Type 0 where
+  pub one : i < length list
+  pub other : j < length list
+  pub keyed : Keyed width k1 k2 (getD list i 0) (getD list j 0)
 
 -- Any two entries of the list can be compared.
 pub record Compares (width count : ℕ) (k1 k2 list : List ℕ) : Type 0 where

@@ -6,9 +6,9 @@ ghost use Prim.Native.Nat.{_+_, _<_, _≤_};
 ghost use lib.ListN.{length, getD};
 ghost use Rattle.decide.specs.Decides.{Decides};
 ghost use Rattle.queue.specs.Order.{before, tied};
-ghost use Rattle.queue.specs.Queue.{absent, members, Tables, Ordered, Heap, Changed, EntryKept, LeastOf};
-ghost use Rattle.queue.specs.Rules.{EntryRule, Lengths};
-ghost use Rattle.queue.specs.Sift.{Loose, Low, KeepsHeap, placeAfter, listAfter, Keyed, Compares, Lesser};
+ghost use Rattle.queue.specs.Queue.{absent, Tables, Ordered, Heap, Changed, EntryKept, LeastOf};
+ghost use Rattle.queue.specs.Rules.{EntryRule, AbsentRule, QueuedRule, Lengths};
+ghost use Rattle.queue.specs.Sift.{Loose, Low, Sifted, Exchanges, placeAfter, listAfter, Keyed, KeyedAt, Compares, Lesser};
 
 // The place of a cell that is not queued, and the content of an unused place of the list.
 pub const ABSENT: u16 = 65535;
@@ -48,9 +48,7 @@ fn cell_before(width: usize, k1: &[u32], k2: &[u32], a: usize, b: usize) -> bool
 
 // Does the cell at place i of the list come before the cell at place j?
 fn place_before(width: usize, k1: &[u32], k2: &[u32], list: &[u16], i: usize, j: usize) -> bool
-    requires { ⌜ i < length (now list) ⌝ }
-    requires { ⌜ j < length (now list) ⌝ }
-    requires { ⌜ Keyed width (now k1) (now k2) (getD (now list) i 0) (getD (now list) j 0) ⌝ }
+    requires { ⌜ KeyedAt width (now k1) (now k2) (now list) i j ⌝ }
     ensures { λ r. ⌜ r ≡ before width (now (k1 .entry)) (now (k2 .entry)) (getD (now (list .entry)) i 0) (getD (now (list .entry)) j 0) ⌝ }
 {
     let a = wide(list[i]);
@@ -60,11 +58,7 @@ fn place_before(width: usize, k1: &[u32], k2: &[u32], list: &[u16], i: usize, j:
 
 // Exchanges the entries at places i and j of the list.
 fn exchange(place: &mut [u16], list: &mut [u16], i: usize, j: usize)
-    requires { ⌜ i < length (now list) ⌝ }
-    requires { ⌜ j < length (now list) ⌝ }
-    requires { ⌜ length (now list) ≤ absent ⌝ }
-    requires { ⌜ getD (now list) i 0 < length (now place) ⌝ }
-    requires { ⌜ getD (now list) j 0 < length (now place) ⌝ }
+    requires { ⌜ Exchanges i j (now place) (now list) ⌝ }
     ensures { λ _. ⌜ now (place .exit) ≡ placeAfter i j (now (place .entry)) (now (list .entry)) ⌝ }
     ensures { λ _. ⌜ now (list .exit) ≡ listAfter i j (now (list .entry)) ⌝ }
 {
@@ -90,10 +84,7 @@ fn sift_up(
 ) -> usize
     requires { ⌜ Tables width (length (now list)) count (now k1) (now k2) (now place) (now list) ⌝ }
     requires { ⌜ Loose (before width (now k1) (now k2)) count start (now list) ⌝ }
-    ensures { λ _. ⌜ Tables width (length (now (list .entry))) count (now (k1 .entry)) (now (k2 .entry)) (now (place .exit)) (now (list .exit)) ⌝ }
-    ensures { λ _. ⌜ members (now (place .exit)) ≡ members (now (place .entry)) ⌝ }
-    ensures { λ r. ⌜ Low (before width (now (k1 .entry)) (now (k2 .entry))) count r (now (list .exit)) ⌝ }
-    ensures { λ _. ⌜ KeepsHeap (before width (now (k1 .entry)) (now (k2 .entry))) count (now (place .entry)) (now (list .entry)) (now (place .exit)) (now (list .exit)) ⌝ }
+    ensures { λ r. ⌜ Sifted width count (now (k1 .entry)) (now (k2 .entry)) (now (place .entry)) (now (list .entry)) (now (place .exit)) (now (list .exit)) (λ lt. Low lt count r (now (list .exit))) ⌝ }
 {
     let mut i = start;
     while 0 < i {
@@ -135,10 +126,7 @@ fn sift_down(
 )
     requires { ⌜ Tables width (length (now list)) count (now k1) (now k2) (now place) (now list) ⌝ }
     requires { ⌜ Low (before width (now k1) (now k2)) count start (now list) ⌝ }
-    ensures { λ _. ⌜ Tables width (length (now (list .entry))) count (now (k1 .entry)) (now (k2 .entry)) (now (place .exit)) (now (list .exit)) ⌝ }
-    ensures { λ _. ⌜ members (now (place .exit)) ≡ members (now (place .entry)) ⌝ }
-    ensures { λ _. ⌜ Ordered (before width (now (k1 .entry)) (now (k2 .entry))) count (now (list .exit)) ⌝ }
-    ensures { λ _. ⌜ KeepsHeap (before width (now (k1 .entry)) (now (k2 .entry))) count (now (place .entry)) (now (list .entry)) (now (place .exit)) (now (list .exit)) ⌝ }
+    ensures { λ _. ⌜ Sifted width count (now (k1 .entry)) (now (k2 .entry)) (now (place .entry)) (now (list .entry)) (now (place .exit)) (now (list .exit)) (λ lt. Ordered lt count (now (list .exit))) ⌝ }
 {
     let mut i = start;
     while i + i + 1 < count {
@@ -163,10 +151,7 @@ fn settle(
 )
     requires { ⌜ Tables width (length (now list)) count (now k1) (now k2) (now place) (now list) ⌝ }
     requires { ⌜ Loose (before width (now k1) (now k2)) count i (now list) ⌝ }
-    ensures { λ _. ⌜ Tables width (length (now (list .entry))) count (now (k1 .entry)) (now (k2 .entry)) (now (place .exit)) (now (list .exit)) ⌝ }
-    ensures { λ _. ⌜ members (now (place .exit)) ≡ members (now (place .entry)) ⌝ }
-    ensures { λ _. ⌜ Ordered (before width (now (k1 .entry)) (now (k2 .entry))) count (now (list .exit)) ⌝ }
-    ensures { λ _. ⌜ KeepsHeap (before width (now (k1 .entry)) (now (k2 .entry))) count (now (place .entry)) (now (list .entry)) (now (place .exit)) (now (list .exit)) ⌝ }
+    ensures { λ _. ⌜ Sifted width count (now (k1 .entry)) (now (k2 .entry)) (now (place .entry)) (now (list .entry)) (now (place .exit)) (now (list .exit)) (λ lt. Ordered lt count (now (list .exit))) ⌝ }
 {
     let j = sift_up(width, k1, k2, place, list, count, i);
     sift_down(width, k1, k2, place, list, count, j);
@@ -277,7 +262,7 @@ pub fn entry_holds(
 {
     let c = wide(list[i]);
     if count <= i {
-        return c == 65535;
+        return c == ABSENT as usize;
     }
     if list.len() <= c {
         return false;
@@ -298,7 +283,7 @@ pub fn entry_holds(
 // Is cell c absent from the queue, and are both its key numbers 0?
 pub fn absent_holds(k1: &[u32], k2: &[u32], place: &[u16], c: usize) -> bool
     requires { ⌜ (c < length (now k1)) × (c < length (now k2)) × (c < length (now place)) ⌝ }
-    ensures { λ r. ⌜ Decides r ((getD (now (place .entry)) c 0 ≡ absent) × (getD (now (k1 .entry)) c 0 ≡ 0) × (getD (now (k2 .entry)) c 0 ≡ 0)) ⌝ }
+    ensures { λ r. ⌜ Decides r (AbsentRule (now (k1 .entry)) (now (k2 .entry)) (now (place .entry)) c) ⌝ }
 {
     if place[c] != ABSENT {
         return false;
@@ -312,7 +297,7 @@ pub fn absent_holds(k1: &[u32], k2: &[u32], place: &[u16], c: usize) -> bool
 // Has cell c a used place of the list, and is it named there?
 pub fn queued_holds(place: &[u16], list: &[u16], count: usize, c: usize) -> bool
     requires { ⌜ (c < length (now place)) × (count ≤ length (now list)) ⌝ }
-    ensures { λ r. ⌜ Decides r ((getD (now (place .entry)) c 0 < count) × (getD (now (list .entry)) (getD (now (place .entry)) c 0) 0 ≡ c)) ⌝ }
+    ensures { λ r. ⌜ Decides r (QueuedRule count (now (place .entry)) (now (list .entry)) c) ⌝ }
 {
     let i = wide(place[c]);
     if count <= i {

@@ -15,7 +15,8 @@ use Rattle.method.proofs.Entries.{first-finite}
 use Rattle.method.proofs.Theorems.{key-order}
 use Rattle.queue.specs.Queue.{absent, Heap}
 use Rattle.queue.proofs.MemberLaws.{length-members, member-at, missing, is-absent, member-place, place-member}
-use Rattle.queue.proofs.RuleLaws.{heap-of-rules, entry-rule, cell-rule}
+use Rattle.queue.specs.Rules.{AbsentRule, QueuedRule}
+use Rattle.queue.proofs.RuleLaws.{heap-of-rules, entry-rule, absent-rule, queued-rule}
 use Rattle.plan.specs.Directions.{opposite}
 use Rattle.plan.specs.Cells.{Size, Stays, stays, entered, estimate}
 use Rattle.plan.specs.Costs.{Plan, byte, shut, IsCost, IsByte, Bytes, Edges}
@@ -26,7 +27,7 @@ use Rattle.plan.proofs.MoveLaws.{area, cost-of, not-a-cost}
 use Rattle.tables.specs.declared.Session.{Session}
 use Rattle.tables.specs.Lent.{Tables, Fits, cells, floor, graph, session, core}
 use Rattle.tables.specs.Sound.{Sound}
-use Rattle.tables.specs.Rules.{most, Numbers, MoveRule, WayRule, OwnRule, KeyRule, CellRules}
+use Rattle.tables.specs.Rules.{most, Numbers, MoveRule, WayRule, OwnRule, WaitingRule, CellRules}
 
 -- the numbers of a table of 32 bits
 abbrev pub Words : List ℕ → Type 0
@@ -56,10 +57,15 @@ module _ (s : Session) (t : Tables) (z : Size (s .width) (s .height)) (fit : Fit
     way u d l ld = C u l .ways d ld
 
     own : (u : ℕ) → u < cells s → OwnRule (most s) (s .origin) u (getD (t .g) u 0) (getD (t .rhs) u 0) (getD (t .parent) u 0)
-    own u l = C u l .alone .value .own
+    own u l = C u l .alone .own
 
-    key : (u : ℕ) → u < cells s → KeyRule (getD (t .place) u 0) (getD (t .k1) u 0) (getD (t .k2) u 0) (getD (t .g) u 0) (getD (t .rhs) u 0) (estimate (s .width) u (s .goal)) (s .km)
-    key u l = C u l .alone .value .key
+    -- a cell is queued, or absent, as its g and rhs differ
+    queued-or-not : (u : ℕ) → u < cells s → AbsentRule (t .k1) (t .k2) (t .place) u ⊎ QueuedRule (s .count) (t .place) (t .list) u
+    queued-or-not u l = at (ℕ-discrete (getD (t .g) u 0) (getD (t .rhs) u 0))
+      where
+        at : Dec (getD (t .g) u 0 ≡ getD (t .rhs) u 0) → AbsentRule (t .k1) (t .k2) (t .place) u ⊎ QueuedRule (s .count) (t .place) (t .list) u
+        at (yes e) = inl (C u l .alone .idle e)
+        at (no n) = inr (C u l .alone .waiting n .queued)
 
     bytes : Bytes (floor s (t .plan))
     bytes u d l ld = at (stays (s .width) (s .height) u d)
@@ -130,8 +136,8 @@ module _ (s : Session) (t : Tables) (z : Size (s .width) (s .height)) (fit : Fit
         hunter-finite = omega (arith, hunter .0, N .searches);
         hunter-parent = hunter .1;
         least = least;
-        in-queue = λ u l n. place-member (t .place) u (omega (arith, fit .place)) (key u l .queued n .0);
-        not-in-queue = λ u l e. member-false l (key u l .idle e);
+        in-queue = λ u l n. place-member (t .place) u (omega (arith, fit .place)) (λ e. omega (arith, C u l .alone .waiting n .queued .used, N .count, area z));
+        not-in-queue = λ u l e. member-false l (C u l .alone .idle e .gone);
         keys = keys;
         absent = λ u l e. heap .blank u l (false-member l e);
         searches-le = N .searches;
@@ -146,13 +152,13 @@ module _ (s : Session) (t : Tables) (z : Size (s .width) (s .height)) (fit : Fit
         hunter = own (s .origin) (N .origin) .hunter-le refl
 
         heap : Heap (s .width) (cells s) (s .count) (t .k1) (t .k2) (t .place) (t .list)
-        heap = heap-of-rules (z .wide) (area z) (N .count) (record { in1 = fit .k1; in2 = fit .k2; inPlace = fit .place; inList = fit .list }) (λ i l. C i l .alone .entry) (λ c l. C c l .alone .cell)
+        heap = heap-of-rules (z .wide) (area z) (N .count) (record { in1 = fit .k1; in2 = fit .k2; inPlace = fit .place; inList = fit .list }) (λ i l. C i l .alone .entry) queued-or-not
 
         keys : (u : ℕ) → u < cells s → getD (core t .queued) u false ≡ true → storedKey (core t) u ≤ calculatedKey (huntOf (graph s t) (session s)) (core t) u
         keys u l q =
             let there = member-place (t .place) u q .1 in
-            let n : getD (t .g) u 0 ≢ getD (t .rhs) u 0 = λ e. there (key u l .idle e) in
-            rw (key-of u (g-finite u l) n) (key-by u _ .1 (key u l .queued n .1))
+            let n : getD (t .g) u 0 ≢ getD (t .rhs) u 0 = λ e. there (C u l .alone .idle e .gone) in
+            rw (key-of u (g-finite u l) n) (key-by u _ .1 (C u l .alone .waiting n .key))
 
   module _ (S : Sound s t) where
     pub numbers-rule : Numbers s
@@ -191,13 +197,13 @@ module _ (s : Session) (t : Tables) (z : Size (s .width) (s .height)) (fit : Fit
         at q (inl x) = x .0
         at q (inr x) = absurd (omega (arith, into-is (floor s (t .plan)) (z .wide) u (getD (t .parent) u 0) (x .1 .from) (x .1 .cost) (x .1 .comes) .named))
 
-    key-rule : (u : ℕ) → u < cells s → KeyRule (getD (t .place) u 0) (getD (t .k1) u 0) (getD (t .k2) u 0) (getD (t .g) u 0) (getD (t .rhs) u 0) (estimate (s .width) u (s .goal)) (s .km)
-    key-rule u l = record {
-      idle = λ e. false-member l (S .numbers .not-in-queue u l e);
-      queued = λ n.
-          let q = S .numbers .in-queue u l n in
-          (member-place (t .place) u q .1, key-by u _ .0 (rw (key-of u (g-small u l) n) at (S .numbers .keys u l q)));
-    }
+    waiting-rule : (u : ℕ) → u < cells s → getD (t .g) u 0 ≢ getD (t .rhs) u 0 → WaitingRule s (t .k1) (t .k2) (t .place) (t .list) (getD (t .g) u 0) (getD (t .rhs) u 0) u
+    waiting-rule u l n =
+        let q = S .numbers .in-queue u l n in
+        record {
+          queued = queued-rule (S .heap) u l (member-place (t .place) u q .1);
+          key = key-by u _ .0 (rw (key-of u (g-small u l) n) at (S .numbers .keys u l q));
+        }
 
     -- the move that a parent byte names
     named-move : (u d : ℕ) → u < cells s → d < 4 → u ≢ s .origin → getD (t .parent) u 0 ≡ d + 1
@@ -248,7 +254,12 @@ module _ (s : Session) (t : Tables) (z : Size (s .width) (s .height)) (fit : Fit
 
     pub cell-rules : (u : ℕ) → u < cells s → CellRules s t u
     cell-rules u l = record {
-      alone = record { entry = entry-rule (S .heap) u l; cell = cell-rule (S .heap) u l; value = record { own = own-rule u l; key = key-rule u l } };
+      alone = record {
+        entry = entry-rule (S .heap) u l;
+        own = own-rule u l;
+        idle = λ e. absent-rule (S .heap) u l (false-member l (S .numbers .not-in-queue u l e));
+        waiting = waiting-rule u l;
+      };
       ways = λ d ld. way-rule u d l ld;
     }
 

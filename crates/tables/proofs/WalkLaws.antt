@@ -5,24 +5,22 @@ use mathlib.Core.Logic.{_⊎_, inl, inr, ⊎-elim, _≢_}
 use mathlib.Core.List.{List}
 use Prim.Native.Nat.{ℕ, _+_, _*_, _≤_, _<_, min}
 use native.Mathlib.Omega.{arith}
-use native.Mathlib.Decide.{ℕ-discrete, decLt}
+use native.Mathlib.Decide.{ℕ-discrete}
 use lib.Dec.{eqb, leb, ltb}
 use lib.ListN.{getD}
 use Rattle.decide.specs.Decides.{Decides}
 use Rattle.decide.proofs.DecideLaws.{decides-no, decides-ne, decides-le, decides-lt, decides-as}
 use Rattle.method.specs.Tables.{NotAbove}
-use Rattle.queue.specs.Queue.{absent}
-use Rattle.queue.specs.Rules.{EntryRule}
+use Rattle.queue.specs.Rules.{EntryRule, AbsentRule, QueuedRule}
 use Rattle.plan.specs.Directions.{opposite}
-use Rattle.plan.specs.Cells.{Size, Stays, entered, estimate}
+use Rattle.plan.specs.Cells.{Stays, entered, estimate}
 use Rattle.plan.specs.Costs.{planOf, shut, IsCost, IsByte}
 use Rattle.plan.specs.Reached.{At, between}
 use Rattle.plan.specs.declared.Spot.{Spot}
 use Rattle.plan.proofs.CellLaws.{stands-row, stands-column}
-use Rattle.plan.proofs.MoveLaws.{area}
 use Rattle.tables.specs.declared.Session.{Session}
 use Rattle.tables.specs.Lent.{cells}
-use Rattle.tables.specs.Rules.{Numbers, SumRule, MoveRule, WayRule, OwnRule, WaitingRule, AloneRule, most}
+use Rattle.tables.specs.Rules.{SumRule, MoveRule, WayRule, OwnRule, WaitingRule, AloneRule, most}
 
 -- two keys, told by their first numbers or by their second
 pub above-by-first : (a b c d : ℕ) → a ≢ c → Decides (ltb a c) (NotAbove a b c d)
@@ -67,38 +65,19 @@ unfolding estimate
 estimate-at x y = simp (stands-row x, stands-column x, stands-row y, stands-column y)
 
 -- a cell that has its place in the queue
-pub waiting-by-key : {s : Session} {k1 k2 place list : List ℕ} {x y u e : ℕ} {r : Bool} → e ≡ estimate (s .width) u (s .goal)
-    → (getD place u 0 < s .count) × (getD list (getD place u 0) 0 ≡ u)
+pub waiting-by-key : {s : Session} {k1 k2 place list : List ℕ} {x y u e : ℕ} {r : Bool} → e ≡ estimate (s .width) u (s .goal) → QueuedRule (s .count) place list u
     → Decides r (NotAbove (getD k1 u 0) (getD k2 u 0) (min x y + e + s .km) (min x y))
     → Decides r (WaitingRule s k1 k2 place list x y u)
-waiting-by-key q w D = decides-as D (λ E. record { used = w .0; named = w .1; key = rw q at E }) (λ W. rw q (W .key))
+waiting-by-key q w D = decides-as D (λ E. record { queued = w; key = rw q at E }) (λ W. rw q (W .key))
 
 -- a cell by itself: one whose g and rhs are equal, and one whose differ
-module _ {s : Session} {g rhs parent k1 k2 place list : List ℕ} {u : ℕ} {r : Bool} (z : Size (s .width) (s .height)) (N : Numbers s)
+module _ {s : Session} {g rhs parent k1 k2 place list : List ℕ} {u : ℕ} {r : Bool}
     (E : EntryRule (s .width) (cells s) (s .count) k1 k2 place list u) (O : OwnRule (most s) (s .origin) u (getD g u 0) (getD rhs u 0) (getD parent u 0)) where
-  pub alone-idle : getD g u 0 ≡ getD rhs u 0 → Decides r ((getD place u 0 ≡ absent) × (getD k1 u 0 ≡ 0) × (getD k2 u 0 ≡ 0)) → Decides r (AloneRule s g rhs parent k1 k2 place list u)
-  alone-idle same D =
-      decides-as D
-      (λ a. record {
-        entry = E;
-        cell = record { queued = λ l. absurd (omega (arith, area z)); gone = λ _. a };
-        value = record { own = O; key = record { idle = λ _. a .0; queued = λ n. absurd (n same) } };
-      })
-      (λ A. A .cell .gone (omega (arith, area z, A .value .key .idle same)))
+  pub alone-idle : getD g u 0 ≡ getD rhs u 0 → Decides r (AbsentRule k1 k2 place u) → Decides r (AloneRule s g rhs parent k1 k2 place list u)
+  alone-idle same D = decides-as D (λ a. record { entry = E; own = O; idle = λ _. a; waiting = λ n. absurd (n same) }) (λ A. A .idle same)
 
   pub alone-waiting : getD g u 0 ≢ getD rhs u 0 → Decides r (WaitingRule s k1 k2 place list (getD g u 0) (getD rhs u 0) u) → Decides r (AloneRule s g rhs parent k1 k2 place list u)
-  alone-waiting differ D =
-      decides-as D
-      (λ W. record {
-        entry = E;
-        cell = record { queued = λ _. W .named; gone = λ h. absurd (omega arith) };
-        value = record { own = O; key = record { idle = λ e. absurd (differ e); queued = λ _. ((λ e. omega (arith, area z)), W .key) } };
-      })
-      (λ A. waiting A (decLt (getD place u 0) (s .count)))
-    where
-      waiting : AloneRule s g rhs parent k1 k2 place list u → Dec (getD place u 0 < s .count) → WaitingRule s k1 k2 place list (getD g u 0) (getD rhs u 0) u
-      waiting A (yes l) = record { used = l; named = A .cell .queued l; key = A .value .key .queued differ .1 }
-      waiting A (no h) = absurd (A .value .key .queued differ .0 (A .cell .gone (omega arith) .0))
+  alone-waiting differ D = decides-as D (λ W. record { entry = E; own = O; idle = λ e. absurd (differ e); waiting = λ _. W }) (λ A. A .waiting differ)
 
 -- a place's rule, the number of cells by another name
 pub entry-as : {r : Bool} {width room room′ count : ℕ} {k1 k2 place list : List ℕ} {i : ℕ} → room ≡ room′

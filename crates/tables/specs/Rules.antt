@@ -6,8 +6,7 @@ use Prim.Native.Nat.{ℕ, _+_, _*_, _≤_, _<_, min}
 use lib.ListN.{getD}
 use Rattle.method.specs.Numbers.{infinite, mostEstimate, mostSearches, growth}
 use Rattle.method.specs.Tables.{NotAbove}
-use Rattle.queue.specs.Queue.{absent}
-use Rattle.queue.specs.Rules.{EntryRule, CellRule}
+use Rattle.queue.specs.Rules.{EntryRule, AbsentRule, QueuedRule}
 use Rattle.plan.specs.Directions.{opposite}
 use Rattle.plan.specs.Cells.{Stays, entered, estimate}
 use Rattle.plan.specs.Costs.{Plan, byte, shut, IsByte}
@@ -54,27 +53,17 @@ pub record OwnRule (bound hunter s g r p : ℕ) : Type 0 where
   pub unreached : s ≢ hunter → p ≡ 0 → r ≡ infinite
   pub reached : s ≢ hunter → p ≢ 0 → (p ≤ 4) × (r ≢ infinite)
 
--- A cell's place `at` and stored key (a, b): queued exactly if g ≠ rhs, under a key not above the calculated one; e is the estimate to the target.
-pub record KeyRule (at a b g r e km : ℕ) : Type 0 where
-  pub idle : g ≡ r → at ≡ absent
-  pub queued : g ≢ r → (at ≢ absent) × NotAbove a b (min g r + e + km) (min g r)
-
--- Cell u, whose g is x and rhs y, as it is queued where they differ: named at its place, under a key not above the calculated one.
+-- Cell u, whose g is x and rhs y, is queued under a key not above the calculated one.
 pub record WaitingRule (s : Session) (k1 k2 place list : List ℕ) (x y u : ℕ) : Type 0 where
-  pub used : getD place u 0 < s .count
-  pub named : getD list (getD place u 0) 0 ≡ u
+  pub queued : QueuedRule (s .count) place list u
   pub key : NotAbove (getD k1 u 0) (getD k2 u 0) (min x y + estimate (s .width) u (s .goal) + s .km) (min x y)
 
--- The rules of cell u by itself.
-pub record ValueRule (s : Session) (g rhs parent k1 k2 place : List ℕ) (u : ℕ) : Type 0 where
-  pub own : OwnRule (most s) (s .origin) u (getD g u 0) (getD rhs u 0) (getD parent u 0)
-  pub key : KeyRule (getD place u 0) (getD k1 u 0) (getD k2 u 0) (getD g u 0) (getD rhs u 0) (estimate (s .width) u (s .goal)) (s .km)
-
--- .. with the queue's rules of cell u and of place u of the list.
+-- The rules of cell u by itself, and the queue's rule of place u of the list. The cell is queued exactly if its g and rhs differ.
 pub record AloneRule (s : Session) (g rhs parent k1 k2 place list : List ℕ) (u : ℕ) : Type 0 where
   pub entry : EntryRule (s .width) (cells s) (s .count) k1 k2 place list u
-  pub cell : CellRule (s .count) k1 k2 place list u
-  pub value : ValueRule s g rhs parent k1 k2 place u
+  pub own : OwnRule (most s) (s .origin) u (getD g u 0) (getD rhs u 0) (getD parent u 0)
+  pub idle : getD g u 0 ≡ getD rhs u 0 → AbsentRule k1 k2 place u
+  pub waiting : getD g u 0 ≢ getD rhs u 0 → WaitingRule s k1 k2 place list (getD g u 0) (getD rhs u 0) u
 
 -- The two rules that the walk tests, of the tables t: cell u by itself, and its move in direction d.
 abbrev pub AloneIn : Session → Tables → ℕ → Type 0

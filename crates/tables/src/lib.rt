@@ -4,17 +4,17 @@ use plan::Spot;
 use queue;
 ghost use mathlib.Core.Path.{_≡_};
 ghost use mathlib.Core.Logic.{_⊎_};
-ghost use Prim.Native.Nat.{_+_, _*_, _<_, _≤_, min};
-ghost use lib.ListN.{length};
+ghost use Prim.Native.Nat.{_+_, _*_, _≤_, min};
 ghost use Rattle.decide.specs.Decides.{Decides};
+ghost use Rattle.method.specs.Numbers.{infinite, mostEstimate};
 ghost use Rattle.method.specs.Tables.{NotAbove};
 ghost use Rattle.queue.specs.Rules.{Lengths};
 ghost use Rattle.plan.specs.Cells.{Size};
 ghost use Rattle.plan.specs.Costs.{planOf};
-ghost use Rattle.plan.specs.Reached.{At};
 ghost use Rattle.tables.specs.Lent.{cells, given, before, Fits};
 ghost use Rattle.tables.specs.Sound.{Sound};
 ghost use Rattle.tables.specs.Rules.{Numbers, SumRule, MoveRule, WayRule, OwnRule, WaitingRule, AloneRule, FirstFault};
+ghost use Rattle.tables.specs.Asked.{CellAsked, AloneAsked, WayAsked};
 
 // The session record: the plan's size, hunter and target as placed, those of the last search taken over (origin and goal), km, the queue's count, and the number of searches since the last fresh start.
 #[repr(C)]
@@ -32,6 +32,15 @@ pub struct Session {
 
 // The infinite number.
 pub const INFINITE: u32 = 4294967295;
+
+// The greatest search number of sound tables.
+const MOST_SEARCHES: u32 = 1000;
+
+// The greatest estimate: what one search can add to km.
+const MOST_ESTIMATE: u32 = 126;
+
+// What one search can add to the greatest finite number.
+const GROWTH: u32 = 1024250;
 
 // Has every table the length that the plan's size gives?
 pub fn lengths_hold(
@@ -95,18 +104,18 @@ fn numbers_hold(s: Session) -> bool
     if cells < s.count {
         return false;
     }
-    if 1000 < s.searches {
+    if MOST_SEARCHES < s.searches {
         return false;
     }
-    s.km <= 126 * s.searches
+    s.km <= MOST_ESTIMATE * s.searches
 }
 
 // Does cell v, with rhs r and parent p, agree with the sum that an open move into it gives, whose parent code is k? The hunter's rhs may be above it.
-fn sum_holds(hunter: usize, v: usize, r: u32, p: u8, sum: usize, k: usize) -> bool
+fn sum_holds(hunter: usize, v: usize, r: u32, p: u8, sum: usize, k: u8) -> bool
     ensures { λ a. ⌜ Decides a (SumRule hunter v r p sum k) ⌝ }
 {
     let own = r as usize;
-    if p as usize == k {
+    if p == k {
         return own == sum;
     }
     if own <= sum {
@@ -116,19 +125,19 @@ fn sum_holds(hunter: usize, v: usize, r: u32, p: u8, sum: usize, k: usize) -> bo
 }
 
 // Is b a cost or shut, and does cell v agree with the move of byte b into it from a cell whose g is x? The sum is taken in 64 bits, so that no content wraps and infinite needs no test.
-fn move_holds(hunter: usize, b: u8, x: u32, v: usize, r: u32, p: u8, k: usize) -> bool
+fn move_holds(hunter: usize, b: u8, x: u32, v: usize, r: u32, p: u8, k: u8) -> bool
     ensures { λ a. ⌜ Decides a (MoveRule hunter b x v r p k) ⌝ }
 {
-    if b <= 250 {
+    if b <= plan::MOST_COST {
         if b == 0 {
             return false;
         }
         return sum_holds(hunter, v, r, p, x as usize + b as usize, k);
     }
-    if b != 255 {
+    if b != plan::SHUT {
         return false;
     }
-    p as usize != k
+    p != k
 }
 
 // Does the move from cell u, whose g is x, in direction d agree with the plan's edge, or else with the cell that it enters?
@@ -144,14 +153,12 @@ fn way_holds(
     at: Spot,
     d: usize,
 ) -> bool
-    requires { ⌜ Size width height ⌝ }
-    requires { ⌜ (length (now plan) ≡ 4 * (height * width)) × (length (now rhs) ≡ height * width) × (length (now parent) ≡ height * width) ⌝ }
-    requires { ⌜ (At width u at) × (u < height * width) × (d < 4) ⌝ }
+    requires { ⌜ WayAsked width height (now plan) (now rhs) (now parent) u at d ⌝ }
     ensures { λ a. ⌜ Decides a (WayRule (planOf width height (now (plan .entry))) (now (rhs .entry)) (now (parent .entry)) hunter x u d) ⌝ }
 {
     let b = plan[4 * u + d];
     if !plan::stays_in(width, height, at, d) {
-        if b != 255 {
+        if b != plan::SHUT {
             return false;
         }
         let p = parent[u];
@@ -160,12 +167,12 @@ fn way_holds(
     let v = plan::entered(width, u, d);
     let r = rhs[v];
     let p = parent[v];
-    move_holds(hunter, b, x, v, r, p, (d + 2) % 4 + 1)
+    move_holds(hunter, b, x, v, r, p, plan::back_code(d))
 }
 
 // Is x infinite or within the bound?
 fn bound_holds(bound: u32, x: u32) -> bool
-    ensures { λ a. ⌜ Decides a ((x ≡ 4294967295) ⊎ (x ≤ bound)) ⌝ }
+    ensures { λ a. ⌜ Decides a ((x ≡ infinite) ⊎ (x ≤ bound)) ⌝ }
 {
     if x <= bound {
         return true;
@@ -207,7 +214,7 @@ pub fn lesser(g: u32, rhs: u32) -> u32
 
 // Is the stored key (a, b) not above the calculated one? e is the estimate to the target.
 fn key_holds(a: u32, b: u32, g: u32, r: u32, e: usize, km: u32) -> bool
-    requires { ⌜ e ≤ 126 ⌝ }
+    requires { ⌜ e ≤ mostEstimate ⌝ }
     ensures { λ x. ⌜ Decides x (NotAbove a b (min g r + e + km) (min g r)) ⌝ }
 {
     let m = lesser(g, r);
@@ -232,9 +239,8 @@ fn waiting_holds(
     at: Spot,
     aim: Spot,
 ) -> bool
-    requires { ⌜ Size (s .width) (s .height) × Numbers s ⌝ }
+    requires { ⌜ CellAsked s u at aim ⌝ }
     requires { ⌜ Lengths (cells s) (now k1) (now k2) (now place) (now list) ⌝ }
-    requires { ⌜ (At (s .width) u at) × (At (s .width) (s .goal) aim) × (u < cells s) ⌝ }
     ensures { λ a. ⌜ Decides a (WaitingRule s (now (k1 .entry)) (now (k2 .entry)) (now (place .entry)) (now (list .entry)) x y u) ⌝ }
 {
     if !queue::queued_holds(place, list, s.count, u) {
@@ -260,10 +266,7 @@ fn alone_holds(
     at: Spot,
     aim: Spot,
 ) -> bool
-    requires { ⌜ Size (s .width) (s .height) × Numbers s ⌝ }
-    requires { ⌜ (length (now g) ≡ cells s) × (length (now rhs) ≡ cells s) × (length (now parent) ≡ cells s) ⌝ }
-    requires { ⌜ Lengths (cells s) (now k1) (now k2) (now place) (now list) ⌝ }
-    requires { ⌜ (At (s .width) u at) × (At (s .width) (s .goal) aim) × (u < cells s) ⌝ }
+    requires { ⌜ AloneAsked s (now g) (now rhs) (now parent) (now k1) (now k2) (now place) (now list) u at aim ⌝ }
     ensures { λ a. ⌜ Decides a (AloneRule s (now (g .entry)) (now (rhs .entry)) (now (parent .entry)) (now (k1 .entry)) (now (k2 .entry)) (now (place .entry)) (now (list .entry)) u) ⌝ }
 {
     if !queue::entry_holds(s.width, k1, k2, place, list, s.count, u) {
@@ -272,7 +275,7 @@ fn alone_holds(
     let x = g[u];
     let y = rhs[u];
     let p = parent[u];
-    let bound = 1024250 * s.searches;
+    let bound = GROWTH * s.searches;
     if !own_holds(bound, s.origin, u, x, y, p) {
         return false;
     }

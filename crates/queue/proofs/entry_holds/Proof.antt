@@ -1,7 +1,19 @@
+-- Each return is one case of the rule of a place: unused, wild, astray, first, under a wild one, under one to compare with (RuleLaws).
 use Rattle.queue.proofs.RuleLaws.{entry-unused, entry-wild, entry-astray, entry-first, entry-under-wild, entry-under}
 use borrow.Author.Needs.{needs}
 use Rattle.queue.proofs.entry_holds.Statement.{statement}
 use Rattle.queue.proofs.entry_holds.Tie as tie
+
+-- a used place
+abbrev used : tie.After-wide2 → tie.Else1
+used t = t .before .before .before
+
+-- .. that is not the first
+abbrev not-first : tie.After-wide3 → tie.Else4
+not-first t = t .before .before
+
+abbrev placed : tie.Else4 → tie.After-wide2
+placed t = t .before .before
 
 mul-wide : tie.Need-mul-wide
 mul-wide c = search needs
@@ -11,6 +23,9 @@ shared-slice-read-wide c = search needs
 
 wide-requires : tie.Need-wide-requires
 wide-requires c κs = search needs
+
+cast-result : tie.Need-cast-result
+cast-result c = search needs
 
 returns : tie.Need-returns
 returns c = entry-unused (c .before .wide .ensures) (c .if1 .taken)
@@ -28,10 +43,13 @@ wide-requires-2 : tie.Need-wide-requires-2
 wide-requires-2 c κs = search needs
 
 returns-3 : tie.Need-returns-3
-returns-3 c = entry-astray (c .before .before .before .before .before .wide .ensures) (c .before .before .before .before .if1 .left) (c .before .wide2 .ensures) (c .if3 .taken)
+returns-3 c = let u = used (c .before) in entry-astray (u .before .wide .ensures) (u .if1 .left) (c .before .wide2 .ensures) (c .if3 .taken)
 
 returns-4 : tie.Need-returns-4
-returns-4 c = entry-first (c .before .before .before .before .before .before .wide .ensures) (c .before .before .before .before .before .if1 .left) (c .before .before .wide2 .ensures) (c .before .before .before .before .if2 .left) (c .before .if3 .left) (c .if4 .taken)
+returns-4 c =
+    let w = c .before .before in
+    let u = used w in
+    entry-first (u .before .wide .ensures) (u .if1 .left) (w .wide2 .ensures) (w .before .before .if2 .left) (c .before .if3 .left) (c .if4 .taken)
 
 sub-wide : tie.Need-sub-wide
 sub-wide c = search needs
@@ -46,13 +64,21 @@ wide-requires-3 : tie.Need-wide-requires-3
 wide-requires-3 c κs = search needs
 
 returns-5 : tie.Need-returns-5
-returns-5 c = entry-under-wild (c .before .before .before .before .before .before .before .before .before .wide .ensures) (c .before .before .before .before .before .before .before .before .if1 .left) (c .before .before .before .before .before .wide2 .ensures) (c .before .before .before .if4 .left) (c .before .wide3 .ensures) (c .if5 .taken)
+returns-5 c =
+    let n = not-first (c .before) in
+    let w = placed n in
+    let u = used w in
+    entry-under-wild (u .before .wide .ensures) (u .if1 .left) (w .wide2 .ensures) (n .if4 .left) (c .before .wide3 .ensures) (c .if5 .taken)
 
 cell-before-requires : tie.Need-cell-before-requires
 cell-before-requires c κs = search needs
 
 returns-6 : tie.Need-returns-6
-returns-6 c = entry-under (c .before .before .before .before .before .before .before .before .before .before .wide .ensures) (c .before .before .before .before .before .before .before .before .before .if1 .left) (c .before .before .before .before .before .before .wide2 .ensures) (c .before .before .before .before .if4 .left) (c .before .before .wide3 .ensures) (c .before .before .before .before .before .before .before .before .if2 .left) (c .before .before .before .before .before .if3 .left) (c .before .if5 .left) (c .cell-before .ensures)
+returns-6 c =
+    let n = not-first (c .before .before) in
+    let w = placed n in
+    let u = used w in
+    entry-under (u .before .wide .ensures) (u .if1 .left) (w .wide2 .ensures) (n .if4 .left) (c .before .before .wide3 .ensures) (w .before .before .if2 .left) (n .before .if3 .left) (c .before .if5 .left) (c .cell-before .ensures)
 
 pub entry-holds-spec : {M : Type 1} → statement M
 entry-holds-spec =
@@ -61,6 +87,7 @@ entry-holds-spec =
     mul-wide
     shared-slice-read-wide
     wide-requires
+    cast-result
     returns
     returns-2
     mul-wide-2

@@ -8,6 +8,19 @@ use borrow.Author.Needs.{needs}
 use Rattle.queue.proofs.put_in.Statement.{statement}
 use Rattle.queue.proofs.put_in.Tie as tie
 
+abbrev at-start : tie.After-slice-known4 → tie.Start
+at-start t = t .before .before .before .before
+
+abbrev at-stores : tie.After-settle-arg4 → tie.After-slice-known4
+at-stores t = t .before .before .before .before
+
+abbrev after-settle : tie.After-slice-known6 → tie.After-settle
+after-settle t = t .before .before .before .before
+
+-- the start, seen from the end
+abbrev at-first : tie.After-slice-known6 → tie.Start
+at-first t = at-start (at-stores (after-settle t .before))
+
 mul-k1 : tie.Need-mul-k1
 mul-k1 c = search needs
 
@@ -36,13 +49,13 @@ mul-list : tie.Need-mul-list
 mul-list c = search needs
 
 slice-write-list : tie.Need-slice-write-list
-slice-write-list c = let h = c .before .before .before .before .pre in put-in-room (h .0) (h .1 .0) (h .1 .1)
+slice-write-list c = let h = at-start c .pre in put-in-room (h .0) (h .1 .0) (h .1 .1)
 
 add-settle : tie.Need-add-settle
 add-settle c = search needs
 
 settle-requires : tie.Need-settle-requires
-settle-requires c κs = let h = c .before .before .before .before .before .before .before .before .pre in put-in-loose (h .0) (h .1 .0) (h .1 .1) _ _
+settle-requires c κs = let h = at-start (at-stores c) .pre in put-in-loose (h .0) (h .1 .0) (h .1 .1) _ _
 
 add-result : tie.Need-add-result
 add-result c = search needs
@@ -54,17 +67,17 @@ same-length-2 : tie.Need-same-length-2
 same-length-2 c = search needs
 
 same-length-3 : tie.Need-same-length-3
-same-length-3 c = c .before .before .before .before .settle .ensures .0 .agree .lengthPlace ∙ simp length-set (sym (c .before .before .before .before .before .before .before .before .before .before .before .before .before .pre .0 .tables .agree .lengthPlace))
+same-length-3 c = after-settle c .settle .ensures .tables .agree .lengthPlace ∙ simp length-set (sym (at-first c .pre .0 .tables .agree .lengthPlace))
 
 same-length-4 : tie.Need-same-length-4
-same-length-4 c = c .before .before .before .before .settle .ensures .0 .agree .lengthList ∙ simp length-set
+same-length-4 c = after-settle c .settle .ensures .tables .agree .lengthList ∙ simp length-set
 
 returns : tie.Need-returns
 returns c =
-    let h = c .before .before .before .before .before .before .before .before .before .before .before .before .before .pre in
-    let s = c .before .before .before .before .settle .ensures in
-    let members = s .1 .0 ∙ put-in-members (h .0) (h .1 .0) (h .1 .1) in
-    (refl, done (h .0) (h .1 .0) (λ z. absurd (never refl z)) (tables-as (s .0) (simp length-set)) members (s .1 .1 .0))
+    let h = at-first c .pre in
+    let s = after-settle c .settle .ensures in
+    let members = s .membership ∙ put-in-members (h .0) (h .1 .0) (h .1 .1) in
+    (refl, done (h .0) (h .1 .0) (λ z. absurd (never refl z)) (tables-as (s .tables) (simp length-set)) members (s .shape))
 
 pub put-in-spec : {M : Type 1} → statement M
 put-in-spec =

@@ -6,6 +6,15 @@ use borrow.Author.Needs.{needs}
 use Rattle.queue.proofs.put_under.Statement.{statement}
 use Rattle.queue.proofs.put_under.Tie as tie
 
+abbrev at-start : tie.After-wide → tie.Start
+at-start t = t .before .before .before .before .before .before
+
+abbrev after-wide : tie.After-settle-arg4 → tie.After-wide
+after-wide t = t .before .before .before .before
+
+abbrev after-settle : tie.After-slice-known7 → tie.After-settle
+after-settle t = t .before .before .before .before
+
 mul-wide : tie.Need-mul-wide
 mul-wide c = search needs
 
@@ -28,7 +37,7 @@ slice-write-k2 : tie.Need-slice-write-k2
 slice-write-k2 c = search needs
 
 settle-requires : tie.Need-settle-requires
-settle-requires c κs = let h = c .before .before .before .before .before .before .before .before .before .before .pre in put-under-loose (h .0) (h .1 .0) (h .1 .1) (c .before .before .before .before .wide .ensures) _ _
+settle-requires c κs = let h = at-start (after-wide c) .pre in put-under-loose (h .0) (h .1 .0) (h .1 .1) (after-wide c .wide .ensures) _ _
 
 same-length : tie.Need-same-length
 same-length c = search needs
@@ -44,10 +53,11 @@ same-length-4 c = search needs
 
 returns : tie.Need-returns
 returns c =
-    let h = c .before .before .before .before .before .before .before .before .before .before .before .before .before .before .before .pre in
-    let s = c .before .before .before .before .settle .ensures in
-    let members = s .1 .0 ∙ put-under-members (h .0) (h .1 .0) (h .1 .1) (c .before .before .before .before .before .before .before .before .before .wide .ensures) in
-    (done (h .0) (h .1 .0) (λ z. absurd (never refl z)) (s .0) members (s .1 .1 .0), same-keys (h .0) (s .1 .1 .1))
+    let w = after-wide (after-settle c .before) in
+    let h = at-start w .pre in
+    let s = after-settle c .settle .ensures in
+    let members = s .membership ∙ put-under-members (h .0) (h .1 .0) (h .1 .1) (w .wide .ensures) in
+    (done (h .0) (h .1 .0) (λ z. absurd (never refl z)) (s .tables) members (s .shape), same-keys (h .0) (s .keeps))
 
 pub put-under-spec : {M : Type 1} → statement M
 put-under-spec =

@@ -6,11 +6,17 @@ use borrow.Author.Needs.{needs}
 use Rattle.queue.proofs.settle.Statement.{statement}
 use Rattle.queue.proofs.settle.Tie as tie
 
+abbrev after-sift-up : tie.After-sift-down-arg2 → tie.After-sift-up
+after-sift-up t = t .before .before .before .before .before .before
+
+abbrev after-sift-down : tie.After-slice-known6 → tie.After-sift-down
+after-sift-down t = t .before .before .before .before
+
 sift-up-requires : tie.Need-sift-up-requires
 sift-up-requires c κs = search needs
 
 sift-down-requires : tie.Need-sift-down-requires
-sift-down-requires c κs = let u = c .before .before .before .before .before .before .sift-up .ensures in (tables-own (u .0), u .1 .1 .0)
+sift-down-requires c κs = let u = after-sift-up c .sift-up .ensures in (tables-own (u .tables), u .shape)
 
 same-length : tie.Need-same-length
 same-length c = search needs
@@ -20,9 +26,9 @@ same-length-2 c = search needs
 
 returns : tie.Need-returns
 returns c =
-    let u = c .before .before .before .before .before .before .before .before .before .before .before .sift-up .ensures in
-    let d = c .before .before .before .before .sift-down .ensures in
-    (tables-as (d .0) (u .0 .agree .lengthList), (d .1 .0 ∙ u .1 .0, (d .1 .1 .0, keep-both (u .1 .1 .1) (d .1 .1 .1))))
+    let u = after-sift-up (after-sift-down c .before) .sift-up .ensures in
+    let d = after-sift-down c .sift-down .ensures in
+    record { tables = tables-as (d .tables) (u .tables .agree .lengthList); membership = d .membership ∙ u .membership; shape = d .shape; keeps = keep-both (u .keeps) (d .keeps) }
 
 pub settle-spec : {M : Type 1} → statement M
 settle-spec =

@@ -1,3 +1,4 @@
+-- Within the bound or infinite: the two sides of the rule.
 use mathlib.Core.Path.{_≡_}
 use mathlib.Core.Logic.{_⊎_, inl, inr, ⊎-elim}
 use Prim.Native.Nat.{_≤_}

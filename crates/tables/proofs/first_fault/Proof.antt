@@ -7,10 +7,10 @@ use native.Mathlib.Omega.{arith}
 use Rattle.decide.proofs.DecideLaws.{refuted}
 use Rattle.plan.specs.Costs.{planOf}
 use Rattle.plan.specs.Reached.{At}
-use Rattle.plan.proofs.MoveLaws.{area, placed}
+use Rattle.plan.proofs.MoveLaws.{area, spot-placed}
 use Rattle.tables.specs.declared.Fault.the-variants.{Nowhere}
 use Rattle.tables.specs.Lent.{tables}
-use Rattle.tables.specs.Rules.{WayRule, CellRules, nowhere, in-record, in-cell, in-move}
+use Rattle.tables.specs.Rules.{Numbers, WayRule, CellRules, AloneIn, RulesBefore, nowhere, in-record, in-cell, in-move}
 use Rattle.tables.proofs.first_fault.Statement.{statement}
 use Rattle.tables.proofs.first_fault.Tie as tie
 
@@ -28,6 +28,32 @@ Inv-cells s plan g rhs parent k1 k2 place list cells aim at₀ fault₀ u₀ at 
 abbrev μ-cells : tie.MeasureT-cells
 μ-cells s plan g rhs parent k1 k2 place list cells aim at₀ fault₀ u₀ at fault u = cells - u
 
+abbrev at-start : tie.After-numbers-hold Inv-loop μ-loop Inv-cells μ-cells → tie.Start Inv-loop μ-loop Inv-cells μ-cells
+at-start t = t .before .before .before .before .before .before .before .before .before
+
+-- where the record's numbers are right
+abbrev numbers-right : tie.At-cells Inv-loop μ-loop Inv-cells μ-cells → tie.Else1 Inv-loop μ-loop Inv-cells μ-cells
+numbers-right t = t .before .before .before
+
+-- the cell at hand, while its moves are looked at
+abbrev in-cells : tie.At-loop Inv-loop μ-loop Inv-cells μ-cells → tie.In-cells Inv-loop μ-loop Inv-cells μ-cells
+in-cells t = t .before .before .before .before
+
+numbers : (t : tie.At-cells Inv-loop μ-loop Inv-cells μ-cells) → Numbers (at-start (numbers-right t .before) .args .s)
+numbers t = numbers-right t .before .numbers-hold .ensures .so (not-false _ (numbers-right t .if1 .left))
+
+-- every rule before the cell at hand holds
+rules-before : (t : tie.At-cells Inv-loop μ-loop Inv-cells μ-cells)
+    → let a = at-start (numbers-right t .before) .args in
+    RulesBefore (a .s) (tables (a .plan .now) (a .g .now) (a .rhs .now) (a .parent .now) (a .k1 .now) (a .k2 .now) (a .place .now) (a .list .now)) (t .cells .u)
+rules-before t = record { numbers = numbers t; each-cell = t .cells .inv .3 }
+
+-- the cell at hand holds by itself
+alone : (t : tie.Else2 Inv-loop μ-loop Inv-cells μ-cells)
+    → let a = at-start (numbers-right (t .before .before .before) .before) .args in
+    AloneIn (a .s) (tables (a .plan .now) (a .g .now) (a .rhs .now) (a .parent .now) (a .k1 .now) (a .k2 .now) (a .place .now) (a .list .now)) (t .before .before .before .cells .u)
+alone t = t .before .alone-holds .ensures .so (not-false _ (t .if2 .left))
+
 numbers-hold-requires : tie.Need-numbers-hold-requires Inv-loop μ-loop Inv-cells μ-cells
 numbers-hold-requires c κs = c .before .before .before .before .before .before .before .before .pre .0
 
@@ -35,40 +61,58 @@ returns : tie.Need-returns Inv-loop μ-loop Inv-cells μ-cells
 returns c = in-record (refuted (c .before .numbers-hold .ensures) (not-true _ (c .if1 .taken)))
 
 mul-cells : tie.Need-mul-cells Inv-loop μ-loop Inv-cells μ-cells
-mul-cells c = omega (arith, area (c .before .before .before .before .before .before .before .before .before .before .before .pre .0))
+mul-cells c = omega (arith, area (at-start (c .before .before) .pre .0))
 
 spot-of-requires : tie.Need-spot-of-requires Inv-loop μ-loop Inv-cells μ-cells
-spot-of-requires c κs = c .before .before .before .before .before .before .before .before .before .before .before .pre .0 .wide
+spot-of-requires c κs = at-start (c .before .before) .pre .0 .wide
 
 cells-holds : tie.Need-cells-holds Inv-loop μ-loop Inv-cells μ-cells
-cells-holds c = (omega arith, refl, record { column-lt = c .before .before .before .before .before .before .before .before .before .before .before .before .pre .0 .wide; is = omega arith }, λ v l. absurd (omega arith))
+cells-holds c = (omega arith, refl, record { column-lt = at-start (c .before .before .before) .pre .0 .wide; is = omega arith }, λ v l. absurd (omega arith))
 
 alone-holds-requires : tie.Need-alone-holds-requires Inv-loop μ-loop Inv-cells μ-cells
 alone-holds-requires c κs =
-    let p = c .before .before .before .before .before .before .before .before .before .before .before .before .before .before .pre in
-    let f = p .1 in (
-      (p .0, c .before .before .before .before .before .numbers-hold .ensures .so (not-false _ (c .before .before .before .before .if1 .left))),
-      (
-        (f .g, f .rhs, f .parent),
-        (record { in1 = f .k1; in2 = f .k2; inPlace = f .place; inList = f .list }, (c .before .cells .inv .2, c .before .before .spot-of .ensures, c .cells-test .taken)),
-      ),
-    )
+    let p = at-start (numbers-right (c .before) .before) .pre in
+    let f = p .1 in
+    record {
+      cell = record {
+        size = p .0;
+        numbers = numbers (c .before);
+        inside = c .cells-test .taken;
+        here = c .before .cells .inv .2;
+        there = c .before .before .spot-of .ensures;
+      };
+      long-g = f .g;
+      long-rhs = f .rhs;
+      long-parent = f .parent;
+      queue = record { in1 = f .k1; in2 = f .k2; inPlace = f .place; inList = f .list };
+    }
 
 mul-x : tie.Need-mul-x Inv-loop μ-loop Inv-cells μ-cells
-mul-x c = omega (arith, c .before .before .cells-test .taken, area (c .before .before .before .before .before .before .before .before .before .before .before .before .before .before .before .before .pre .0))
+mul-x c =
+    let u = c .before .before in
+    omega (arith, u .cells-test .taken, area (at-start (numbers-right (u .before) .before) .pre .0))
 
 shared-slice-read-x : tie.Need-shared-slice-read-x Inv-loop μ-loop Inv-cells μ-cells
 shared-slice-read-x c =
-    let p = c .before .before .before .before .before .before .before .before .before .before .before .before .before .before .before .before .before .pre in
-    omega (arith, c .before .before .before .cells-test .taken, p .1 .g)
+    let u = c .before .before .before in
+    omega (arith, u .cells-test .taken, at-start (numbers-right (u .before) .before) .pre .1 .g)
 
 loop-holds : tie.Need-loop-holds Inv-loop μ-loop Inv-cells μ-cells
 loop-holds c = (omega arith, c .before .before .before .before .cells .inv .1, λ e l. absurd (omega arith))
 
 way-holds-requires : tie.Need-way-holds-requires Inv-loop μ-loop Inv-cells μ-cells
 way-holds-requires c κs =
-    let p = c .before .before .before .before .before .before .before .before .before .before .before .before .before .before .before .before .before .before .before .pre in
-    (p .0, ((p .1 .plan, p .1 .rhs, p .1 .parent), (c .before .before .before .before .before .before .cells .inv .2, c .before .before .before .before .before .cells-test .taken, c .loop-test .taken)))
+    let u = in-cells (c .before) in
+    let p = at-start (numbers-right (u .before) .before) .pre in
+    record {
+      size = p .0;
+      long-plan = p .1 .plan;
+      long-rhs = p .1 .rhs;
+      long-parent = p .1 .parent;
+      inside = u .cells-test .taken;
+      here = u .before .cells .inv .2;
+      direction = c .loop-test .taken;
+    }
 
 add-d : tie.Need-add-d Inv-loop μ-loop Inv-cells μ-cells
 add-d c = omega arith
@@ -83,52 +127,46 @@ loop-again c =
 
 onward-requires : tie.Need-onward-requires Inv-loop μ-loop Inv-cells μ-cells
 onward-requires c κs =
-    let p = c .before .before .before .before .before .before .before .before .before .before .before .before .before .before .before .before .before .before .before .pre in
-    let a = c .before .before .before .before .before .before .cells .inv .2 in
-    (placed (p .0) a (c .before .before .before .before .before .cells-test .taken) .0, a .column-lt, p .0 .narrow)
+    let u = in-cells (c .before) in
+    let z = at-start (numbers-right (u .before) .before) .pre .0 in
+    let a = u .before .cells .inv .2 in
+    (spot-placed z a (u .cells-test .taken) .row, a .column-lt, z .narrow)
 
 add-u : tie.Need-add-u Inv-loop μ-loop Inv-cells μ-cells
 add-u c =
-    let p = c .before .before .before .before .before .before .before .before .before .before .before .before .before .before .before .before .before .before .before .before .pre in
-    omega (arith, c .before .before .before .before .before .before .cells-test .taken, area (p .0))
+    let u = in-cells (c .before .before) in
+    omega (arith, u .cells-test .taken, area (at-start (numbers-right (u .before) .before) .pre .0))
 
 cells-less : tie.Need-cells-less Inv-loop μ-loop Inv-cells μ-cells
-cells-less c = omega (arith, c .before .before .before .before .before .before .cells-test .taken)
+cells-less c = omega (arith, in-cells (c .before .before) .cells-test .taken)
 
 cells-again : tie.Need-cells-again Inv-loop μ-loop Inv-cells μ-cells
 cells-again c =
-    let i = c .before .before .before .before .before .before .before .cells .inv in
-    let j = c .before .before .loop .inv in (
-      omega (arith, c .before .before .before .before .before .before .cells-test .taken),
+    let l = c .before .before in
+    let u = in-cells l in
+    let i = u .before .cells .inv in
+    let j = l .loop .inv in (
+      omega (arith, u .cells-test .taken),
       j .1,
       c .onward .ensures _ (i .2),
-      below-more _ _ (i .3) (record {
-        alone = c .before .before .before .before .before .alone-holds .ensures .so (not-false _ (c .before .before .before .before .if2 .left));
-        ways = λ d q. j .2 d (omega (arith, c .before .loop-test .left));
-      }),
+      below-more _ _ (i .3) (record { alone = alone (l .before .before); ways = λ d q. j .2 d (omega (arith, c .before .loop-test .left)) }),
     )
 
 returns-2 : tie.Need-returns-2 Inv-loop μ-loop Inv-cells μ-cells
 returns-2 c =
-    let n = c .before .before .before .before .before .numbers-hold .ensures .so (not-false _ (c .before .before .before .before .if1 .left)) in
     let i = c .before .cells .inv in
-    rw (i .1) (nowhere (record { numbers = n; each-cell = λ v l. i .3 v (omega (arith, l, c .cells-test .left)) }))
+    rw (i .1) (nowhere (record { numbers = numbers (c .before); each-cell = λ v l. i .3 v (omega (arith, l, c .cells-test .left)) }))
 
 returns-3 : tie.Need-returns-3 Inv-loop μ-loop Inv-cells μ-cells
 returns-3 c =
-    let n = c .before .before .before .before .before .before .before .numbers-hold .ensures .so (not-false _ (c .before .before .before .before .before .before .if1 .left)) in
-    in-cell (c .before .before .cells-test .taken)
-    (record { numbers = n; each-cell = c .before .before .before .cells .inv .3 })
-    (refuted (c .before .alone-holds .ensures) (not-true _ (c .if2 .taken)))
+    let u = c .before .before in
+    in-cell (u .cells-test .taken) (rules-before (u .before)) (refuted (c .before .alone-holds .ensures) (not-true _ (c .if2 .taken)))
 
 returns-4 : tie.Need-returns-4 Inv-loop μ-loop Inv-cells μ-cells
 returns-4 c =
-    let n = c .before .before .before .before .before .before .before .before .before .before .before .before .numbers-hold .ensures
-    .so (not-false _ (c .before .before .before .before .before .before .before .before .before .before .before .if1 .left)) in
-    in-move (c .before .before .before .before .before .before .before .cells-test .taken) (c .before .before .loop-test .taken)
-    (record { numbers = n; each-cell = c .before .before .before .before .before .before .before .before .cells .inv .3 })
-    (c .before .before .before .before .before .before .alone-holds .ensures .so (not-false _ (c .before .before .before .before .before .if2 .left)))
-    (c .before .before .before .loop .inv .2)
+    let l = c .before .before .before in
+    let u = in-cells l in
+    in-move (u .cells-test .taken) (c .before .before .loop-test .taken) (rules-before (u .before)) (alone (l .before .before)) (l .loop .inv .2)
     (refuted (c .before .way-holds .ensures) (not-true _ (c .if3 .taken)))
 
 pub first-fault-spec : {M : Type 1} → statement M

@@ -1,3 +1,4 @@
+-- The first numbers decide where they differ, else the second (WalkLaws); sums are taken in 64 bits.
 use Rattle.tables.proofs.WalkLaws.{above-by-first, above-by-second}
 use borrow.Author.Needs.{needs}
 use Rattle.tables.proofs.key_holds.Statement.{statement}

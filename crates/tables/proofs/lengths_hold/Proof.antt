@@ -1,3 +1,4 @@
+-- The eight tests are the eight lengths.
 use native.Mathlib.Omega.{arith}
 use Rattle.decide.proofs.DecideLaws.{decides-no, decides-eq}
 use Rattle.plan.proofs.MoveLaws.{area}
@@ -32,7 +33,25 @@ returns-7 : tie.Need-returns-7
 returns-7 c = decides-no (λ F. c .if7 .taken (F .place))
 
 returns-8 : tie.Need-returns-8
-returns-8 c = decides-eq _ _ (λ e. record { plan = c .before .before .before .before .before .before .if1 .left; g = c .before .before .before .before .before .if2 .left; rhs = c .before .before .before .before .if3 .left; parent = c .before .before .before .if4 .left; k1 = c .before .before .if5 .left; k2 = c .before .if6 .left; place = c .if7 .left; list = e }) (λ F. F .list)
+returns-8 c =
+    let k2 = c .before in
+    let k1 = k2 .before in
+    let parent = k1 .before in
+    let rhs = parent .before in
+    let g = rhs .before in
+    let plan = g .before in
+    decides-eq _ _
+    (λ e. record {
+      plan = plan .if1 .left;
+      g = g .if2 .left;
+      rhs = rhs .if3 .left;
+      parent = parent .if4 .left;
+      k1 = k1 .if5 .left;
+      k2 = k2 .if6 .left;
+      place = c .if7 .left;
+      list = e;
+    })
+    (λ F. F .list)
 
 pub lengths-hold-spec : {M : Type 1} → statement M
 lengths-hold-spec =

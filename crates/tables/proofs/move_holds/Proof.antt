@@ -1,3 +1,4 @@
+-- A cost is held to the rule of sums; 255 is shut, and then the parent is not there; any other byte is none.
 use mathlib.Core.Logic.{inl, inr}
 use native.Mathlib.Omega.{arith}
 use Rattle.decide.proofs.DecideLaws.{decides-no, decides-ne, decides-as}

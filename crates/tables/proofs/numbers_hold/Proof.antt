@@ -1,3 +1,4 @@
+-- The seven tests are the seven bounds.
 use native.Mathlib.Omega.{arith}
 use Rattle.decide.proofs.DecideLaws.{decides-no, decides-le}
 use Rattle.plan.proofs.MoveLaws.{area}
@@ -31,14 +32,20 @@ mul-result c = search needs
 
 returns-7 : tie.Need-returns-7
 returns-7 c =
+    let searches = c .before .before in
+    let count = searches .before .before in
+    let goal = count .before .before in
+    let origin = goal .before .before in
+    let target = origin .before .before in
+    let hunter = target .before .before in
     decides-le _ _
     (λ l. record {
-      hunter = c .before .before .before .before .before .before .before .before .before .before .before .before .if1 .left;
-      target = c .before .before .before .before .before .before .before .before .before .before .if2 .left;
-      origin = c .before .before .before .before .before .before .before .before .if3 .left;
-      goal = c .before .before .before .before .before .before .if4 .left;
-      count = c .before .before .before .before .if5 .left;
-      searches = c .before .before .if6 .left;
+      hunter = hunter .if1 .left;
+      target = target .if2 .left;
+      origin = origin .if3 .left;
+      goal = goal .if4 .left;
+      count = count .if5 .left;
+      searches = searches .if6 .left;
       km = l;
     })
     (λ N. N .km)

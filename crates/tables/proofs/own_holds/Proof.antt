@@ -1,3 +1,4 @@
+-- The bound on g first; then the hunter, a cell without a parent, and a cell with one, each by its part of the rule.
 use borrow.Author.Tests.{not-true, not-false}
 use native.Mathlib.Omega.{arith}
 use Rattle.decide.proofs.DecideLaws.{decides-no, decides-eq, decides-ne, refuted}

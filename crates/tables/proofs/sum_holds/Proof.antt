@@ -1,3 +1,4 @@
+-- A cell whose parent is there has this sum; another has at most it, unless it is the hunter.
 use native.Mathlib.Omega.{arith}
 use Rattle.decide.proofs.DecideLaws.{decides-eq}
 use Rattle.tables.proofs.WalkLaws.{hunter-by}
