@@ -1,6 +1,6 @@
 -- The number by which open or a change of a move is refused, 0 if none: the rules of document 01's table as tests, in its order.
 use mathlib.Core.Path.{_≡_}
-use mathlib.Core.Logic.{_⊎_, inl, inr, ⊎-elim, Dec·and}
+use mathlib.Core.Logic.{inl, inr, ⊎-elim, Dec·and}
 use Prim.Native.Nat.{ℕ, zero, suc, _<_}
 use native.Mathlib.Omega.{arith}
 use native.Mathlib.Decide.{ℕ-discrete, decLt}

@@ -1,6 +1,6 @@
 -- The estimate: 0 at the cell itself, symmetric, the triangle, at most 126, and changed by at most 1 along a move.
 use mathlib.Core.Path.{_≡_}
-use Prim.Native.Nat.{ℕ, _+_, _-_, _*_, _≤_, _<_}
+use Prim.Native.Nat.{ℕ, _+_, _*_, _≤_, _<_}
 use native.Mathlib.Nat.{mod-lt}
 use native.Mathlib.Omega.{arith}
 use Rattle.method.specs.Numbers.{mostEstimate}

@@ -1,5 +1,5 @@
 -- Each return is one case of the rule: 0 is neither, up to the greatest cost it is a cost, above it only the byte of a shut move is left.
-use mathlib.Core.Logic.{_⊎_, inl, inr, ⊎-elim}
+use mathlib.Core.Logic.{inl, inr, ⊎-elim}
 use mathlib.Core.Path.{_≡_}
 use native.Mathlib.Omega.{arith}
 use Rattle.decide.proofs.DecideLaws.{decides-yes, decides-no, decides-eq}

@@ -6,9 +6,6 @@ use Rattle.session.proofs.RefusalLaws.{table-number, tables-granted, sound-rule
 use borrow.Author.Needs.{needs}
 use Rattle.search.proofs.refusal.Statement.{statement}
 use Rattle.search.proofs.refusal.Tie as tie
-use Rattle.search.proofs.refusal.Reads as reads
-use Rattle.search.proofs.refusal.Lts as lts
-use Rattle.session.proofs.table_refusal.Reads as table-refusal-reads
 
 table-refusal-requires : tie.Need-table-refusal-requires
 table-refusal-requires c κs = search needs

@@ -5,11 +5,6 @@ use Rattle.session.specs.Refusals.{fails, holds, passed}
 use borrow.Author.Needs.{needs}
 use Rattle.session.proofs.table_refusal.Statement.{statement}
 use Rattle.session.proofs.table_refusal.Tie as tie
-use Rattle.session.proofs.table_refusal.Reads as reads
-use Rattle.session.proofs.table_refusal.Lts as lts
-use Rattle.plan.proofs.is_size.Reads as is-size-reads
-use Rattle.tables.proofs.is_sound.Reads as is-sound-reads
-use Rattle.tables.proofs.lengths_hold.Reads as lengths-hold-reads
 
 -- The places that the answers look back to.
 abbrev size-right : tie.After-is-sound → tie.Else1
