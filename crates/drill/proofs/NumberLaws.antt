@@ -70,7 +70,7 @@ formed file e =
 
 -- Its trailer tells the number of its cells.
 pub cells-formed : (file : List ℕ) → drill-file.formNumber file ≡ 0 → drill-file.cellsIn file ≡ drill-file.cells (drill-file.trailerOf file)
-unfolding drill-file.cellsIn
+unfolding drill-file.cellsIn drill-file.cellsTold
 cells-formed file e = let F = formed file e in choose-yes _ _ _ (F .long) ∙ choose-yes _ _ _ (F .size)
 
 -- The number of a file of right form is open's.

@@ -1,10 +1,10 @@
 -- Laws of the drill file: what a test chooses, the trailer, the actions and the number of the form.
-use mathlib.Core.Path.{_≡_, refl, sym, ap, _∙_}
+use mathlib.Core.Path.{_≡_, refl, sym, ap, subst, _∙_}
 use mathlib.Core.Bool.{true, false, not, Bool-discrete}
 use mathlib.Core.Logic.{⊎-elim, Dec·and}
 use mathlib.Core.List.{List, [], _∷_}
 use Prim.Native.Nat.{ℕ, zero, suc, _+_, _*_, _-_, _<_, _≤_}
-use native.Mathlib.Decide.{ℕ-discrete}
+use native.Mathlib.Decide.{ℕ-discrete, decLe}
 use native.Mathlib.Nat.{add-assoc}
 use native.Mathlib.Omega.{arith}
 use lib.Dec.{T}
@@ -17,7 +17,7 @@ use denote.Enum.Declared.{tagOf}
 use Rattle.drill_file.specs.declared.Action.{Action}
 use Rattle.drill_file.specs.declared.Action.the-variants.{Change, Hunter, Target, Search, Bad}
 use Rattle.drill_file.specs.declared.Trailer.{Trailer}
-use Rattle.drill_file.specs.File.{two, trailerAt, trailerOf, cells, actionAt, actionsFrom, isBad, wellFormed, isSize, formNumber, cellsIn}
+use Rattle.drill_file.specs.File.{two, trailerAt, trailerOf, noTrailer, trailerIn, cells, actionAt, actionsFrom, isBad, wellFormed, isSize, formNumber, cellsTold, cellsIn}
 use Rattle.drill_file.proofs.Action.{the-type}
 
 -- Where a test holds, what equals the first of two equals their choice ..
@@ -27,6 +27,12 @@ chosen d b p e = e ∙ sym (choose-yes d _ b p)
 -- .. and where it fails, what equals the second.
 pub passed-by : {A P : Type 0} (d : Dec P) (a : A) {b x : A} → (P → ⊥) → x ≡ b → x ≡ choose d a b
 passed-by d a n e = e ∙ sym (choose-no d a _ n)
+
+-- A function of a choice is the choice of its values.
+choice-of : {A B P : Type 0} (f : A → B) (d : Dec P) (a b : A) → f (choose d a b) ≡ choose d (f a) (f b)
+unfolding choose
+choice-of f (yes p) a b = refl
+choice-of f (no n) a b = refl
 
 -- A trailer whose numbers were read one by one is the trailer at that place.
 pub trailer-read : (file : List ℕ) (at hunter target actions low high : ℕ)
@@ -95,22 +101,36 @@ numberAt file t =
     8)
     1
 
-module _ (file : List ℕ) {t : Trailer} where
-  -- Where the length is right, the rules after it give the number.
-  pub form-of : {k : ℕ} → 12 ≤ length file → length file ≤ 65536 → t ≡ trailerOf file → k ≡ numberAt file t → k ≡ formNumber file
-  unfolding formNumber
-  form-of l h e n = chosen _ _ (l, h) (n ∙ ap (numberAt file) e)
+-- Zeros tell no cells.
+no-cells : cellsTold noTrailer ≡ 0
+unfolding cellsTold
+no-cells = choose-no _ _ _ (λ z. omega (arith, z .wide))
 
-  -- Where there is a trailer, its size gives the number of cells.
-  pub cells-of : {k : ℕ} → 12 ≤ length file → t ≡ trailerOf file → k ≡ choose (isSize (t .width) (t .height)) (cells t) 0 → k ≡ cellsIn file
-  unfolding cellsIn
-  cells-of l e n = chosen _ _ l (n ∙ ap (λ (x : Trailer). choose (isSize (x .width) (x .height)) (cells x) 0) e)
+module _ (file : List ℕ) {t : Trailer} (read : t ≡ trailerIn file) where
+  -- Of a file that is long enough, what is read as the trailer is the trailer.
+  pub trailer-there : 12 ≤ length file → t ≡ trailerOf file
+  unfolding trailerIn
+  trailer-there l = read ∙ choose-yes _ _ _ l
+
+  -- Where the length is right, the rules after it give the number.
+  pub form-of : {k : ℕ} → 12 ≤ length file → length file ≤ 65536 → k ≡ numberAt file t → k ≡ formNumber file
+  unfolding formNumber
+  form-of l h n = chosen _ _ (l, h) (n ∙ ap (numberAt file) (trailer-there l))
+
+  -- The cells that it tells are those that the file tells.
+  pub cells-of : cellsTold t ≡ cellsIn file
+  unfolding trailerIn cellsIn
+  cells-of = ap cellsTold read ∙ choice-of cellsTold (decLe 12 (length file)) _ _ ∙ ap (λ n. choose (decLe 12 (length file)) (cellsTold (trailerOf file)) n) no-cells
 
   -- A trailer's number of actions has two bytes.
-  pub actions-few : ((i : ℕ) → getD file i 0 < 256) → t ≡ trailerOf file → t .actions < 65536
-  actions-few b e = omega (arith, b (length file - 12 + 6), b (length file - 12 + 6 + 1), ap (λ (t : Trailer). t .actions) e)
+  pub actions-few : ((i : ℕ) → getD file i 0 < 256) → t .actions < 65536
+  unfolding trailerIn
+  actions-few b = subst few (sym read) (choose-is few _ (λ _. omega (arith, b (length file - 12 + 6), b (length file - 12 + 6 + 1))) (λ _. omega arith))
+    where
+      few : Trailer → Type 0
+      few x = x .actions < 65536
 
--- No file tells more cells than the greatest plan has.
-pub cells-few : (file : List ℕ) → cellsIn file ≤ 4096
-unfolding cellsIn
-cells-few file = choose-is (λ n. n ≤ 4096) _ (λ _. choose-is (λ n. n ≤ 4096) _ area (λ _. omega arith)) (λ _. omega arith)
+-- No trailer tells more cells than the greatest plan has.
+pub cells-few : (t : Trailer) → cellsTold t ≤ 4096
+unfolding cellsTold
+cells-few t = choose-is (λ n. n ≤ 4096) _ area (λ _. omega arith)

@@ -32,6 +32,14 @@ trailerAt file at = record {
 abbrev pub trailerOf : List ℕ → Trailer
 trailerOf file = trailerAt file (length file - 12)
 
+-- Zeros, for a file that is too short to have a trailer.
+abbrev pub noTrailer : Trailer
+noTrailer = record { width = 0; height = 0; hunter = 0; target = 0; actions = 0; offset = 0 }
+
+-- What is read as the trailer of a file, whatever it is.
+unfoldable pub trailerIn : List ℕ → Trailer
+trailerIn file = choose (decLe 12 (length file)) (trailerOf file) noTrailer
+
 -- The number of cells, N.
 abbrev pub cells : Trailer → ℕ
 cells t = t .height * t .width
@@ -99,6 +107,10 @@ formNumber file =
     1)
     8
 
+-- The number of cells that a trailer tells: 0 where there is no right size in it.
+unfoldable pub cellsTold : Trailer → ℕ
+cellsTold t = choose (isSize (t .width) (t .height)) (cells t) 0
+
 -- The number of cells that a file's trailer tells: 0 where there is no trailer, or no right size in it.
 unfoldable pub cellsIn : List ℕ → ℕ
-cellsIn file = choose (decLe 12 (length file)) (choose (isSize (trailerOf file .width) (trailerOf file .height)) (cells (trailerOf file)) 0) 0
+cellsIn file = choose (decLe 12 (length file)) (cellsTold (trailerOf file)) 0

@@ -3,7 +3,7 @@ use plan;
 ghost use mathlib.Core.Path.{_≡_};
 ghost use Prim.Native.Nat.{_+_, _*_, _≤_, _<_, _^_};
 ghost use lib.ListN.{length};
-ghost use Rattle.drill_file.specs.File.{two, trailerOf, actionOf, actionAt, actionsFrom, isBad, wellFormed, formNumber, cellsIn};
+ghost use Rattle.drill_file.specs.File.{two, trailerOf, trailerIn, actionOf, actionAt, actionsFrom, isBad, wellFormed, formNumber, cellsTold};
 
 // What the last 12 bytes say.
 pub struct Trailer {
@@ -34,8 +34,8 @@ fn two_at(file: &[u8], at: usize) -> usize
     low + 256 * high
 }
 
-// The trailer of a file.
-pub fn trailer_of(file: &[u8]) -> Trailer
+// The trailer of a file that is long enough to have one.
+fn trailer_of(file: &[u8]) -> Trailer
     requires { ⌜ 12 ≤ length (now file) ⌝ }
     ensures { λ r. ⌜ r ≡ trailerOf (now (file .entry)) ⌝ }
 {
@@ -48,6 +48,23 @@ pub fn trailer_of(file: &[u8]) -> Trailer
         actions: two_at(file, at + 6),
         offset: two_at(file, at + 8) + 65536 * two_at(file, at + 10),
     }
+}
+
+// The trailer of a file, whatever it is: zeros where it is too short to have one. The runner calls this once for a file, and passes the trailer along.
+pub fn trailer_in(file: &[u8]) -> Trailer
+    ensures { λ r. ⌜ r ≡ trailerIn (now (file .entry)) ⌝ }
+{
+    if file.len() < 12 {
+        return Trailer {
+            width: 0,
+            height: 0,
+            hunter: 0,
+            target: 0,
+            actions: 0,
+            offset: 0,
+        };
+    }
+    trailer_of(file)
 }
 
 // The action that its parts say.
@@ -156,8 +173,9 @@ fn well_formed(file: &[u8], from: usize, actions: usize) -> bool
     true
 }
 
-// The number of the first rule that the form of a file breaks, 0 if none.
-pub fn form(file: &[u8]) -> u8
+// The number of the first rule that the form of a file breaks, 0 if none; its trailer is passed along.
+pub fn form(file: &[u8], t: Trailer) -> u8
+    requires { ⌜ t ≡ trailerIn (now file) ⌝ }
     ensures { λ r. ⌜ r ≡ formNumber (now (file .entry)) ⌝ }
 {
     if file.len() < 12 {
@@ -166,7 +184,6 @@ pub fn form(file: &[u8]) -> u8
     if 65536 < file.len() {
         return 8;
     }
-    let t = trailer_of(file);
     if !plan::is_size(t.width, t.height) {
         return 1;
     }
@@ -183,14 +200,10 @@ pub fn form(file: &[u8]) -> u8
     0
 }
 
-// The number of cells that the trailer of a file tells, 0 where it tells none.
-pub fn cells_in(file: &[u8]) -> usize
-    ensures { λ r. ⌜ r ≡ cellsIn (now (file .entry)) ⌝ }
+// The number of cells that a trailer tells, 0 where it has no right size.
+pub fn cells_told(t: Trailer) -> usize
+    ensures { λ r. ⌜ r ≡ cellsTold t ⌝ }
 {
-    if file.len() < 12 {
-        return 0;
-    }
-    let t = trailer_of(file);
     if !plan::is_size(t.width, t.height) {
         return 0;
     }

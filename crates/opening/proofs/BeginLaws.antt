@@ -17,7 +17,8 @@ use Rattle.session.specs.Refusals.{OpenRules}
 use Rattle.session.proofs.Theorems.{fresh-sound}
 use Rattle.change.specs.Promise.{withPlan}
 use Rattle.drill_file.specs.declared.Trailer.{Trailer}
-use Rattle.drill_file.specs.File.{trailerOf, cells, cellsIn, formNumber}
+use Rattle.drill_file.specs.File.{trailerOf, trailerIn, cells, cellsIn, formNumber}
+use Rattle.drill_file.proofs.FileLaws.{trailer-there}
 use Rattle.lines.specs.Put.{Put}
 use Rattle.lines.proofs.PutLaws.{put-byte, put-then, put-as}
 use Rattle.drill.specs.declared.Played.{Played}
@@ -44,12 +45,13 @@ module _ (file : List ℕ) {t : Tables} (fits : Fits (cellsIn file) t) (formed-r
   plan-is : length (t .plan) ≡ 4 * cells (trailerOf file)
   plan-is = fits .plan ∙ ap (λ n. 4 * n) (cells-formed file formed-right)
 
-  -- It has more bytes than its plan, and a trailer.
+  -- It has more bytes than its plan.
   pub plan-in-file : length (t .plan) ≤ length file
   plan-in-file = let F = formed file formed-right in omega (arith, plan-is, F .offset, F .whole)
 
-  pub trailer-in-file : 12 ≤ length file
-  trailer-in-file = formed file formed-right .long
+  -- What was read as its trailer is its trailer.
+  is-trailer : {x : Trailer} → x ≡ trailerIn file → x ≡ trailerOf file
+  is-trailer e = trailer-there _ e (formed file formed-right .long)
 
   -- The file's first bytes as the plan: the tables fit, and the plan is the file's.
   module _ {plan : List ℕ} (p : plan ≡ take (length (t .plan)) file) where
@@ -71,26 +73,26 @@ module _ (file : List ℕ) {t : Tables} (fits : Fits (cellsIn file) t) (formed-r
     planned = ap (planOf (trailerOf file .width) (trailerOf file .height)) (p ∙ ap (λ k. take k file) plan-is)
 
     -- The number of the first of open's rules that these bytes break is the file's.
-    pub number-found : {x : Trailer} {k : ℕ} → x ≡ trailerOf file → OpenRules (x .width) (x .height) (x .hunter) (x .target) (withPlan t plan) k → k ≡ fileNumber file
+    pub number-found : {x : Trailer} {k : ℕ} → x ≡ trailerIn file → OpenRules (x .width) (x .height) (x .hunter) (x .target) (withPlan t plan) k → k ≡ fileNumber file
     number-found {x} {k} e r =
-        open-number (formed file formed-right .size) fits-planned (subst (λ (y : Trailer). OpenRules (y .width) (y .height) (y .hunter) (y .target) (withPlan t plan) k) e r)
+        open-number (formed file formed-right .size) fits-planned (subst (λ (y : Trailer). OpenRules (y .width) (y .height) (y .hunter) (y .target) (withPlan t plan) k) (is-trailer e) r)
         ∙ ap (λ y. openNumber y (trailerOf file .hunter) (trailerOf file .target)) planned ∙ sym (file-number file formed-right)
 
     -- Where it is 0, a fresh start can be made on them ..
-    pub openable : {x : Trailer} → x ≡ trailerOf file → fileNumber file ≡ 0 → Openable (x .width) (x .height) (x .hunter) (x .target) (withPlan t plan)
+    pub openable : {x : Trailer} → x ≡ trailerIn file → fileNumber file ≡ 0 → Openable (x .width) (x .height) (x .hunter) (x .target) (withPlan t plan)
     openable {x} e z =
-        subst (λ (y : Trailer). Openable (y .width) (y .height) (y .hunter) (y .target) (withPlan t plan)) (sym e)
+        subst (λ (y : Trailer). Openable (y .width) (y .height) (y .hunter) (y .target) (withPlan t plan)) (sym (is-trailer e))
         (number-opens (formed file formed-right .size) fits-planned (ap (λ y. openNumber y (trailerOf file .hunter) (trailerOf file .target)) planned ∙ sym (file-number file formed-right) ∙ z))
 
     -- .. which leaves what the definition says.
-    pub starts : {x : Trailer} {s : Session} {t′ : Tables} {text : List ℕ} {r : Played} → x ≡ trailerOf file → fileNumber file ≡ 0
+    pub starts : {x : Trailer} {s : Session} {t′ : Tables} {text : List ℕ} {r : Played} → x ≡ trailerIn file → fileNumber file ≡ 0
         → (s ≡ begun-record (x .width) (x .height) (x .hunter) (x .target)) × Opened (x .width) (x .height) (x .hunter) (x .target) (withPlan t plan) t′
         → r ≡ record { session = s; at = x .offset; left = x .actions; used = 0 } → Starts file text r t′ text
     starts {x} {s} {t′} {text} e z d is = subst (λ (r : Played). Starts file text r t′ text) (sym is) (record {
       sound = subst (λ y. Sound y t′) (sym (d .0)) (fresh-sound (openable e z) (d .1));
-      after = left (subst (λ (y : Trailer). (s ≡ begun-record (y .width) (y .height) (y .hunter) (y .target)) × Opened (y .width) (y .height) (y .hunter) (y .target) (withPlan t plan) t′) e d);
-      place = ap (λ (y : Trailer). y .offset) e;
-      all-left = ap (λ (y : Trailer). y .actions) e;
+      after = left (subst (λ (y : Trailer). (s ≡ begun-record (y .width) (y .height) (y .hunter) (y .target)) × Opened (y .width) (y .height) (y .hunter) (y .target) (withPlan t plan) t′) (is-trailer e) d);
+      place = ap (λ (y : Trailer). y .offset) (is-trailer e);
+      all-left = ap (λ (y : Trailer). y .actions) (is-trailer e);
       unused = refl;
       blank = refl;
     })

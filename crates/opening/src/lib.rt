@@ -1,6 +1,7 @@
 // Opening: a drill file opened on tables of its size, or refused by its number before anything but its line is written.
 use drill::Played;
 use drill_file;
+use drill_file::Trailer;
 use entries;
 use lines;
 use session;
@@ -10,7 +11,7 @@ ghost use Prim.Native.Nat.{_≤_};
 ghost use lib.ListN.{length, take};
 ghost use Rattle.tables.specs.Lent.{given, before, after, Fits};
 ghost use Rattle.lines.specs.Text.{room};
-ghost use Rattle.drill_file.specs.File.{cellsIn};
+ghost use Rattle.drill_file.specs.File.{trailerIn, cellsIn};
 ghost use Rattle.drill.specs.Output.{fileNumber};
 ghost use Rattle.drill.specs.Promises.{Opening, Refuses, Begins};
 
@@ -26,9 +27,10 @@ fn copy_plan(file: &[u8], plan: &mut [u8])
     }
 }
 
-// The number by which a file is refused, 0 if it is played: its form, then open's rules, asked of the file's own bytes.
+// The number by which a file is refused, 0 if it is played: its form, then open's rules, asked of the file's own bytes. Its trailer is passed along.
 fn file_refusal(
     file: &[u8],
+    t: Trailer,
     plan: &[u8],
     g: &[u32],
     rhs: &[u32],
@@ -38,14 +40,14 @@ fn file_refusal(
     place: &[u16],
     list: &[u16],
 ) -> u8
+    requires { ⌜ t ≡ trailerIn (now file) ⌝ }
     requires { ⌜ Fits (cellsIn (now file)) (given plan g rhs parent k1 k2 place list) ⌝ }
     ensures { λ r. ⌜ r ≡ fileNumber (now (file .entry)) ⌝ }
 {
-    let form = drill_file::form(file);
+    let form = drill_file::form(file, t);
     if form != 0 {
         return form;
     }
-    let t = drill_file::trailer_of(file);
     let bytes = plan.len();
     session::open_refusal(
         t.width,
@@ -89,7 +91,7 @@ fn refuse(number: u8, text: &mut [u8]) -> Played
 }
 
 // A file just opened: all of its actions are left to play, and nothing is used of the text.
-fn opened(session: Session, t: drill_file::Trailer) -> Played
+fn opened(session: Session, t: Trailer) -> Played
     ensures { λ r. ⌜ r ≡ record { session = session; at = t .offset; left = t .actions; used = 0 } ⌝ }
 {
     Played {
@@ -100,9 +102,10 @@ fn opened(session: Session, t: drill_file::Trailer) -> Played
     }
 }
 
-// Opens a file, whatever it is, or refuses it. A refused file is refused before anything but its line is written.
+// Opens a file, whatever it is, or refuses it; its trailer is passed along. A refused file is refused before anything but its line is written.
 pub fn begin(
     file: &[u8],
+    t: Trailer,
     plan: &mut [u8],
     g: &mut [u32],
     rhs: &mut [u32],
@@ -113,15 +116,15 @@ pub fn begin(
     list: &mut [u16],
     text: &mut [u8],
 ) -> Played
+    requires { ⌜ t ≡ trailerIn (now file) ⌝ }
     requires { ⌜ Opening (now file) (given plan g rhs parent k1 k2 place list) (now text) ⌝ }
     ensures { λ r. ⌜ Begins (now (file .entry)) (before plan g rhs parent k1 k2 place list) (now (text .entry)) r (after plan g rhs parent k1 k2 place list) (now (text .exit)) ⌝ }
 {
-    let number = file_refusal(file, plan, g, rhs, parent, k1, k2, place, list);
+    let number = file_refusal(file, t, plan, g, rhs, parent, k1, k2, place, list);
     if number != 0 {
         return refuse(number, text);
     }
     copy_plan(file, plan);
-    let t = drill_file::trailer_of(file);
     let session = entries::begin(
         t.width,
         t.height,

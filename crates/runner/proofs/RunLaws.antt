@@ -9,8 +9,9 @@ use lib.ListN.{length, take, drop}
 use lib.Seq.{length-take-le}
 use Rattle.plan.proofs.MoveLaws.{area}
 use Rattle.tables.specs.Lent.{Lent, Tables, tables}
-use Rattle.drill_file.specs.File.{cellsIn, actionsFrom}
-use Rattle.drill_file.proofs.FileLaws.{cells-few}
+use Rattle.drill_file.specs.declared.Trailer.{Trailer}
+use Rattle.drill_file.specs.File.{trailerIn, cellsTold, cellsIn, actionsFrom}
+use Rattle.drill_file.proofs.FileLaws.{cells-of, cells-few}
 use Rattle.drill.specs.declared.Played.{Played}
 use Rattle.drill.specs.Output.{output}
 use Rattle.drill.specs.Promises.{stands, Playing, Begins, Unprinted, NextPiece}
@@ -27,17 +28,17 @@ part n l = take (n - 0) (drop 0 l)
 part-long : (l : List ℕ) (n : ℕ) → n ≤ length l → length (part n l) ≡ n
 part-long l n h = ap length (from-start n l) ∙ length-take-le n l h
 
--- A file tells no more cells than the tables have room for.
-pub parts-room : (file : List ℕ) {n : ℕ} → n ≡ cellsIn file → n ≤ mostCells
-parts-room file e = omega (arith, cells-few file)
+-- A trailer tells no more cells than the tables have room for.
+pub parts-room : (x : Trailer) {n : ℕ} → n ≡ cellsTold x → n ≤ mostCells
+parts-room x e = omega (arith, cells-few x)
 
 -- What was read can be run on the parts that it asks for.
-pub running : {plan g rhs parent k1 k2 place list way text : Lent} {input : List ℕ} {got : ℕ} {file : List ℕ} (count : List ℕ) {n : ℕ} → got ≤ length input → file ≡ take got input
-    → counted count ≡ 0 → Own plan g rhs parent k1 k2 place list way text → n ≡ cellsIn file
+pub running : {plan g rhs parent k1 k2 place list way text : Lent} {input : List ℕ} {got : ℕ} {file : List ℕ} (count : List ℕ) {x : Trailer} {n : ℕ} → got ≤ length input → file ≡ take got input
+    → counted count ≡ 0 → Own plan g rhs parent k1 k2 place list way text → x ≡ trailerIn file → n ≡ cellsTold x
     → Running input got file count
     (tables (part (4 * n) (now plan)) (part n (now g)) (part n (now rhs)) (part n (now parent)) (part n (now k1)) (part n (now k2)) (part n (now place)) (part n (now list)))
     (now way) (now text)
-running {plan} {g} {rhs} {parent} {k1} {k2} {place} {list} {file = file} count {n} read is none O e = record {
+running {plan} {g} {rhs} {parent} {k1} {k2} {place} {list} {file = file} count {x} {n} read is none O trailer told = record {
   read = read;
   part = is;
   unwritten = none;
@@ -59,7 +60,10 @@ running {plan} {g} {rhs} {parent} {k1} {k2} {place} {list} {file = file} count {
 }
   where
     l : n ≤ mostCells
-    l = parts-room file e
+    l = parts-room x told
+
+    e : n ≡ cellsIn file
+    e = told ∙ cells-of _ trailer
 
 -- ---- a file begun
 

@@ -1,5 +1,6 @@
 // The drill runner: reads one drill file and prints a line for each search. What it hands to each write is the next piece of the output of what it read; only that the bytes cross is outside.
 use drill_file;
+use drill_file::Trailer;
 use libc::STDIN_FILENO;
 use opening;
 use printing;
@@ -7,15 +8,17 @@ ghost use mathlib.Core.Path.{_≡_};
 ghost use Prim.Native.Nat.{_≤_};
 ghost use lib.ListN.{length, take};
 ghost use Rattle.tables.specs.Lent.{given};
+ghost use Rattle.drill_file.specs.File.{trailerIn};
 ghost use Rattle.drill.specs.Output.{output};
 ghost use Rattle.printing.specs.Promises.{counted, WrittenTo};
 ghost use Rattle.runner.specs.Own.{Own, Running};
 
-// Runs a file on tables of its size: prints what begin leaves in the text, then plays and prints what is left over.
+// Runs a file, whose trailer is passed along, on tables of its size: prints what begin leaves in the text, then plays and prints what is left over.
 fn run(
     input: &[u8],
     got: usize,
     file: &[u8],
+    t: Trailer,
     count: &mut [usize],
     plan: &mut [u8],
     g: &mut [u32],
@@ -28,10 +31,11 @@ fn run(
     way: &mut [u16],
     text: &mut [u8],
 )
+    requires { ⌜ t ≡ trailerIn (now file) ⌝ }
     requires { ⌜ Running (now input) got (now file) (now count) (given plan g rhs parent k1 k2 place list) (now way) (now text) ⌝ }
     ensures { λ _. ⌜ WrittenTo (length (output (now (file .entry)))) (now (count .exit)) ⌝ }
 {
-    let begun = opening::begin(file, plan, g, rhs, parent, k1, k2, place, list, text);
+    let begun = opening::begin(file, t, plan, g, rhs, parent, k1, k2, place, list, text);
     let left = printing::print(input, got, text, begun, count);
     if left == 0 {
         return;
@@ -57,7 +61,7 @@ fn run(
     );
 }
 
-// Runs the file that was read, on the parts of the tables that its size asks for.
+// Runs the file that was read, on the parts of the tables that its size asks for. Here its trailer is read, and nowhere else.
 fn run_file(
     input: &[u8],
     got: usize,
@@ -79,12 +83,14 @@ fn run_file(
     ensures { λ _. ⌜ WrittenTo (length (output (take got (now (input .entry))))) (now (count .exit)) ⌝ }
 {
     let file = printing::file_in(input, got);
-    let n = drill_file::cells_in(file);
+    let t = drill_file::trailer_in(file);
+    let n = drill_file::cells_told(t);
     let m = 4 * n;
     run(
         input,
         got,
         file,
+        t,
         count,
         &mut plan[0..m],
         &mut g[0..n],

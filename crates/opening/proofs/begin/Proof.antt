@@ -1,11 +1,28 @@
--- `opening::begin` refuses a file by its number or opens it (`begins-refused`, `begins-opened`); a fresh start on the copied plan leaves what the definition says (`starts`).
+-- `opening::begin` refuses a file by its number or opens it (`begins-refused`, `begins-opened`); a fresh start on the copied plan leaves what the definition says (`starts`). The trailer is the one passed along.
 use mathlib.Core.Path.{sym, _∙_}
 use native.Mathlib.Omega.{arith}
 use borrow.Author.Needs.{needs}
 use Rattle.drill.proofs.NumberLaws.{file-formed}
-use Rattle.opening.proofs.BeginLaws.{plan-in-file, trailer-in-file, openable, starts, begins-refused, begins-opened}
+use Rattle.opening.proofs.BeginLaws.{plan-in-file, openable, starts, begins-refused, begins-opened}
 use Rattle.opening.proofs.begin.Statement.{statement}
 use Rattle.opening.proofs.begin.Tie as tie
+
+-- The places that the answers look back to.
+abbrev at-start : tie.Else1 → tie.Start
+at-start c =
+    c .before .before .before .before .before .before .before .before .before .before .before .before .before .before .before .before .before .before .before .before
+
+abbrev then-1 : tie.After-slice-known10 → tie.Then1
+then-1 c = c .before .before .before .before
+
+abbrev after-plan-for-begin : tie.After-begin-arg8 → tie.After-plan
+after-plan-for-begin c = c .before .before .before .before .before .before .before .before .before
+
+abbrev after-begin : tie.After-opened → tie.After-begin
+after-begin c = c .before .before .before .before .before .before .before .before .before .before .before .before .before .before .before
+
+abbrev after-plan : tie.After-opened → tie.After-plan
+after-plan c = after-plan-for-begin (after-begin c .before)
 
 file-refusal-requires : tie.Need-file-refusal-requires
 file-refusal-requires c κs = search needs
@@ -41,36 +58,28 @@ same-length-9 : tie.Need-same-length-9
 same-length-9 c = search needs
 
 returns : tie.Need-returns
-returns c = begins-refused (c .before .before .before .before .before .file-refusal .ensures) (c .before .before .before .before .if1 .taken) (c .before .before .refuse .ensures)
+returns c = begins-refused (then-1 c .before .file-refusal .ensures) (then-1 c .if1 .taken) (c .before .before .refuse .ensures)
 
 copy-plan-requires : tie.Need-copy-plan-requires
 copy-plan-requires c κs =
-    let asked = c .before .before in
-    let start = asked .before .before .before .before .before .before .before .before .before .before .before .before .before .before .before .before .before .before .before in
-    plan-in-file _ (start .pre .fits) (file-formed _ (sym (asked .file-refusal .ensures) ∙ c .before .if1 .left))
-
-trailer-of-requires : tie.Need-trailer-of-requires
-trailer-of-requires c κs =
-    let asked = c .before .before .before .before .before in
-    let start = asked .before .before .before .before .before .before .before .before .before .before .before .before .before .before .before .before .before .before .before in
-    trailer-in-file _ (start .pre .fits) (file-formed _ (sym (asked .file-refusal .ensures) ∙ c .before .before .before .before .if1 .left))
+    plan-in-file _ (at-start (c .before) .pre .1 .fits) (file-formed _ (sym (c .before .before .file-refusal .ensures) ∙ c .before .if1 .left))
 
 begin-requires : tie.Need-begin-requires
 begin-requires c κs =
-    let read = c .before .before .before .before .before .before .before .before in
-    let copied = read .before .before .before in
-    let asked = copied .before .before .before in
-    let start = asked .before .before .before .before .before .before .before .before .before .before .before .before .before .before .before .before .before .before .before in
-    let z = sym (asked .file-refusal .ensures) ∙ copied .before .before .if1 .left in
-    openable _ (start .pre .fits) (file-formed _ z) (copied .copy-plan .ensures) (read .trailer-of .ensures) z
+    let z = sym (after-plan-for-begin c .before .before .before .before .file-refusal .ensures)
+    ∙ after-plan-for-begin c .before .before .before .if1 .left in
+    openable _
+    (at-start (after-plan-for-begin c .before .before .before) .pre .1 .fits)
+    (file-formed _ z)
+    (after-plan-for-begin c .before .copy-plan .ensures)
+    (at-start (after-plan-for-begin c .before .before .before) .pre .0)
+    z
 
 opened-requires : tie.Need-opened-requires
 opened-requires c κs = search needs
 
 same-length-10 : tie.Need-same-length-10
-same-length-10 c =
-    let begun = c .before .before .before .before .before .before .before .before .before .before .before .before .before .before .before in
-    omega (arith, begun .before .before .before .before .before .before .before .before .before .before .before .plan)
+same-length-10 c = omega (arith, after-plan c .plan)
 
 same-length-11 : tie.Need-same-length-11
 same-length-11 c = search needs
@@ -95,13 +104,15 @@ same-length-17 c = search needs
 
 returns-2 : tie.Need-returns-2
 returns-2 c =
-    let begun = c .before .before .before .before .before .before .before .before .before .before .before .before .before .before .before in
-    let read = begun .before .before .before .before .before .before .before .before .before in
-    let copied = read .before .before .before in
-    let asked = copied .before .before .before in
-    let start = asked .before .before .before .before .before .before .before .before .before .before .before .before .before .before .before .before .before .before .before in
-    let z = sym (asked .file-refusal .ensures) ∙ copied .before .before .if1 .left in
-    begins-opened z (starts _ (start .pre .fits) (file-formed _ z) (copied .copy-plan .ensures) (read .trailer-of .ensures) z (begun .begin .ensures) (c .opened .ensures))
+    let z = sym (after-plan c .before .before .before .before .file-refusal .ensures) ∙ after-plan c .before .before .before .if1 .left in
+    begins-opened z (starts _
+    (at-start (after-plan c .before .before .before) .pre .1 .fits)
+    (file-formed _ z)
+    (after-plan c .before .copy-plan .ensures)
+    (at-start (after-plan c .before .before .before) .pre .0)
+    z
+    (after-begin c .begin .ensures)
+    (c .opened .ensures))
 
 pub begin-spec : {M : Type 1} → statement M
 begin-spec =
@@ -120,7 +131,6 @@ begin-spec =
     same-length-9
     returns
     copy-plan-requires
-    trailer-of-requires
     begin-requires
     opened-requires
     same-length-10

@@ -4,9 +4,13 @@ use lib.ListN.{length}
 use borrow.Author.Needs.{needs}
 use Rattle.drill.proofs.NumberLaws.{form-refused}
 use Rattle.drill.proofs.PieceLaws.{from-start}
-use Rattle.opening.proofs.BeginLaws.{plan-in-file, trailer-in-file, number-found}
+use Rattle.opening.proofs.BeginLaws.{plan-in-file, number-found}
 use Rattle.opening.proofs.file_refusal.Statement.{statement}
 use Rattle.opening.proofs.file_refusal.Tie as tie
+
+-- The places that the answers look back to.
+abbrev at-start : tie.After-form → tie.Start
+at-start c = c .before .before .before .before .before .before .before .before .before .before
 
 form-requires : tie.Need-form-requires
 form-requires c κs = search needs
@@ -14,10 +18,7 @@ form-requires c κs = search needs
 returns : tie.Need-returns
 returns c =
     let e = c .before .form .ensures in
-    e ∙ sym (form-refused (c .before .before .before .before .before .before .before .before .before .before .before .args .file .now) (λ z. c .if1 .taken (e ∙ z)))
-
-trailer-of-requires : tie.Need-trailer-of-requires
-trailer-of-requires c κs = trailer-in-file _ (c .before .before .before .before .before .before .before .before .before .before .before .pre) (sym (c .before .form .ensures) ∙ c .if1 .left)
+    e ∙ sym (form-refused (at-start (c .before) .args .file .now) (λ z. c .if1 .taken (e ∙ z)))
 
 sub-open-refusal : tie.Need-sub-open-refusal
 sub-open-refusal c = search needs
@@ -26,18 +27,20 @@ part-open-refusal-start : tie.Need-part-open-refusal-start
 part-open-refusal-start c = search needs
 
 part-open-refusal-end : tie.Need-part-open-refusal-end
-part-open-refusal-end c = plan-in-file _ (c .before .before .before .before .before .before .before .before .before .before .before .before .pre) (sym (c .before .before .form .ensures) ∙ c .before .if1 .left)
+part-open-refusal-end c = plan-in-file _ (at-start (c .before) .pre .1) (sym (c .before .form .ensures) ∙ c .if1 .left)
 
 open-refusal-requires : tie.Need-open-refusal-requires
 open-refusal-requires c κs = search needs
 
 returns-2 : tie.Need-returns-2
 returns-2 c =
-    let read = c .before .before in
-    let start = read .before .before .before .before .before .before .before .before .before .before .before .before in
-    let file = start .args .file .now in
-    number-found file (start .pre) (sym (read .before .before .form .ensures) ∙ read .before .if1 .left) (from-start (length (start .args .plan .now)) file)
-    (read .trailer-of .ensures) (c .open-refusal .ensures)
+    let file = at-start (c .before .before .before) .args .file .now in
+    number-found file
+    (at-start (c .before .before .before) .pre .1)
+    (sym (c .before .before .before .form .ensures) ∙ c .before .before .if1 .left)
+    (from-start (length (at-start (c .before .before .before) .args .plan .now)) file)
+    (at-start (c .before .before .before) .pre .0)
+    (c .open-refusal .ensures)
 
 pub file-refusal-spec : {M : Type 1} → statement M
 file-refusal-spec =
@@ -45,7 +48,6 @@ file-refusal-spec =
     (tie.spec
     form-requires
     returns
-    trailer-of-requires
     sub-open-refusal
     part-open-refusal-start
     part-open-refusal-end

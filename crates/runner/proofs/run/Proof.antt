@@ -56,7 +56,7 @@ begin-requires c κs = search needs
 
 print-requires : tie.Need-print-requires
 print-requires c κs =
-    first-read (at-start (c .before .before .before) .pre) (after-begin (c .before .before .before) .begin .ensures)
+    first-read (at-start (c .before .before .before) .pre .1) (after-begin (c .before .before .before) .begin .ensures)
 
 same-length : tie.Need-same-length
 same-length c = search needs
@@ -91,7 +91,7 @@ same-length-10 c = search needs
 returns : tie.Need-returns
 returns c =
     whole-written
-    (at-start (after-text-from-count (c .before .before)) .pre)
+    (at-start (after-text-from-count (c .before .before)) .pre .1)
     (after-begin (after-text-from-count (c .before .before)) .begin .ensures)
     (c .before .before .before .print .last .1 .1 .1 .1 .0)
     (c .before .before .before .print .ensures)
@@ -100,7 +100,7 @@ returns c =
 play-all-requires : tie.Need-play-all-requires
 play-all-requires c κs =
     rest-printing
-    (at-start (after-text-for-play-all c) .pre)
+    (at-start (after-text-for-play-all c) .pre .1)
     (after-begin (after-text-for-play-all c) .begin .ensures)
     (else-1 c .before .before .before .print .last .1 .1 .1 .1 .0)
     (else-1 c .before .before .before .print .ensures)
