@@ -26,7 +26,8 @@ use Rattle.entries.specs.declared.Aim.{Aim}
 use Rattle.entries.specs.Aims.{AimOf, mostG, mostRhs}
 use Rattle.entries.specs.Became.{Entering, Entered}
 use Rattle.entries.proofs.SmallLaws.{sound-small-g, sound-small-rhs, sound-held}
-use Rattle.entries.proofs.FoundLaws.{entering, held-rhs, small-rhs, anew-small}
+use Rattle.entries.proofs.FoundLaws.{entering, ready-set, anew-small}
+use Rattle.entries.proofs.AimLaws.{ready-of}
 use Rattle.choices.specs.declared.Effect.{Effect}
 use Rattle.choices.specs.declared.Effect.the-variants.{Keeps, To}
 use Rattle.change.specs.Refusals.{Workable}
@@ -77,12 +78,9 @@ module _ {s : Session} {t : Tables} {u d cost : ℕ} (W : Workable s t u d cost)
 
   pub deciding : {v : ℕ} → v ≡ enteredCell s u d → Deciding s (replanned s t u d cost) (t .g) (t .rhs) (t .parent) v u
   deciding e = record {
-    obeys = obeys-after;
-    small = sound-small-g (W .sound);
-    long-g = W .sound .numbers .sized .g;
+    findable = record { obeys = obeys-after; long-g = W .sound .numbers .sized .g; small-g = sound-small-g (W .sound); inside = entered-in e };
     long-rhs = W .sound .numbers .sized .rhs;
     long-parent = W .sound .numbers .sized .parent;
-    entered-in = entered-in e;
     cell-in = W .cell-in;
   }
 
@@ -133,18 +131,26 @@ module _ {s : Session} {t : Tables} {u d cost : ℕ} (W : Workable s t u d cost)
       -- its entry can be set right
       pub asked-entering : {a : Aim} {at : Spot} → AimOf s a → At (s .width) v at → Entering a (s .count) v at (t .g) (set (t .rhs) v r) (t .k1) (t .k2) (t .place) (t .list)
       asked-entering {a} {at} O here =
-          let held = sound-held (W .sound) (replanned s t u d cost) (a .row) (a .column) in
-          subst (λ x. Entering x (s .count) v at (t .g) (set (t .rhs) v r) (t .k1) (t .k2) (t .place) (t .list)) (sym (O .is))
-          (entering
+          entering
+          (ready-set r p
+          (ready-of O
           (record {
-            obeys = obeys-after;
-            hunter-in = W .sound .numbers .origin-in;
-            target-in = W .sound .numbers .goal-in;
-            target-at = O .target-at;
-            km-le = omega (arith, W .sound .numbers .km-le, W .sound .numbers .searches-le);
-          })
-          (held-rhs v r p held) (sound-small-g (W .sound)) (small-rhs v r held (entered-in ev) sum-small (sound-small-rhs (W .sound)))
-          (entered-in ev) here)
+            ready = record {
+              aimed = record {
+                obeys = obeys-after;
+                hunter-in = W .sound .numbers .origin-in;
+                target-in = W .sound .numbers .goal-in;
+                target-at = O .target-at;
+                km-le = omega (arith, W .sound .numbers .km-le, W .sound .numbers .searches-le);
+              };
+              held = sound-held (W .sound) (replanned s t u d cost) (a .row) (a .column);
+              small-g = sound-small-g (W .sound);
+              small-rhs = sound-small-rhs (W .sound);
+            };
+            inside = entered-in ev;
+            stands = here;
+          }))
+          sum-small)
 
       -- and is what the method makes of it
       set-is : method.setRight (record { graph = graph s (withPlan t (replanned s t u d cost)); hunter = s .origin; target = s .goal; km = s .km }) (method.withRhs (core t) v r p) v ≡ methodChange s t u d cost

@@ -9,13 +9,10 @@ use native.Mathlib.Decide.{decLt}
 use lib.Dec.{ltb}
 use lib.ListN.{getD}
 use borrow.Author.Tests.{lt-ltb, le-ltb}
-use Rattle.method.specs.Numbers.{infinite}
 use Rattle.method.specs.Tables.{keyNumber, storedKey, calculatedKey}
 use Rattle.method.proofs.Theorems.{key-less}
 use Rattle.plan.specs.Reached.{between}
 use Rattle.plan.specs.declared.Spot.{Spot}
-use Rattle.plan.proofs.EstimateLaws.{estimate-le}
-use Rattle.tables.proofs.WalkLaws.{estimate-at}
 use Rattle.tables.specs.Lent.{tables, core}
 use Rattle.entries.specs.declared.Aim.{Aim}
 use Rattle.entries.specs.Aims.{hunt}
@@ -44,9 +41,5 @@ key-second a b c d e = same-test b d (keyNumber a b) (keyNumber c d) (λ h. omeg
 pub stale-is : {a : Aim} {u : ℕ} {at : Spot} {g rhs k1 k2 : List ℕ} {m first : ℕ} {r : Bool} → Keyed a u at g rhs k1 k2 → m ≡ min (getD g u 0) (getD rhs u 0)
     → first ≡ m + between at (goalSpot a) + a .km → r ≡ ltb (keyNumber (getD k1 u 0) (getD k2 u 0)) (keyNumber first m)
     → (plan parent place list : List ℕ) → r ≡ ltb (storedKey (core (tables plan g rhs parent k1 k2 place list)) u) (calculatedKey (hunt a plan) (core (tables plan g rhs parent k1 k2 place list)) u)
-stale-is {a} {u} {at} {g} {rhs} {k1} {k2} {m} {first} K em ef er plan parent place list =
-    er ∙ rw (← first-key-is a {at = at} (K .stands) (K .target-at) (omega (arith, K .fits, em)) ef plan, em) refl
-
--- the calculated key fits
-pub key-room : {a : Aim} {u : ℕ} {at : Spot} {g rhs k1 k2 : List ℕ} {m : ℕ} → Keyed a u at g rhs k1 k2 → m ≡ min (getD g u 0) (getD rhs u 0) → m + between at (goalSpot a) + a .km < infinite
-key-room {a} {u} {at} K e = omega (arith, K .fits, e, estimate-at {b = goalSpot a} (K .stands) (K .target-at), estimate-le (K .size) u (a .target) (K .inside) (K .target-in))
+stale-is K em ef er plan parent place list =
+    er ∙ rw (← first-key-is (K .sited) (K .fits) em ef plan, em) refl

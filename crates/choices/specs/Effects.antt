@@ -5,11 +5,10 @@ use mathlib.Core.List.{List}
 use Prim.Native.Nat.{ℕ, _+_, _<_}
 use lib.ListN.{getD, length}
 use Rattle.method.specs.Tables.{anew}
-use Rattle.plan.specs.Costs.{Obeys}
 use Rattle.plan.specs.Grid.{graphOf}
 use Rattle.tables.specs.declared.Session.{Session}
 use Rattle.tables.specs.Lent.{cells, floor}
-use Rattle.entries.specs.Aims.{Small, mostG}
+use Rattle.entries.specs.Aims.{Findable}
 use Rattle.choices.specs.declared.Effect.{Effect}
 use Rattle.choices.specs.declared.Effect.the-variants.{Keeps, To}
 
@@ -18,14 +17,11 @@ abbrev pub Touches : (hunter : ℕ) (g rhs parent : List ℕ) (v k u old new : �
 Touches hunter g rhs parent v k u old new =
     (v ≢ hunter) × (((new < old) × (getD g u 0 + new < getD rhs v 0)) ⊎ ((old < new) × (getD parent v 0 ≡ k)))
 
--- The plan obeys, the tables that a decision reads have their lengths, every g leaves room for a cost, and both cells are in the plan.
+-- What a changed move asks can be decided: the cell v entered can be found anew, it has a rhs and a parent, and the cell u is in the plan.
 pub record Deciding (s : Session) (plan g rhs parent : List ℕ) (v u : ℕ) : Type 0 where
-  pub obeys : Obeys (floor s plan)
-  pub small : Small mostG g
-  pub long-g : length g ≡ cells s
+  pub findable : Findable (s .width) (s .height) plan g v
   pub long-rhs : length rhs ≡ cells s
   pub long-parent : length parent ≡ cells s
-  pub entered-in : v < cells s
   pub cell-in : u < cells s
 
 -- What a changed move asks of the cell v that it enters: to keep its numbers, to take the smaller sum with u as parent, or to be found anew. The plan is that after the change.

@@ -1,18 +1,18 @@
 -- What one open move from the cell u of a step asks: nothing, or another rhs for the cell entered.
 use mathlib.Core.Path.{_≡_}
 use mathlib.Core.List.{List}
-use Prim.Native.Nat.{ℕ, _+_, _≤_, _<_, min}
-use lib.ListN.{getD, length}
-use Rattle.method.specs.Numbers.{infinite, mostCost, mostEstimate}
+use Prim.Native.Nat.{ℕ, _+_, _≤_, _<_}
+use lib.ListN.{length}
+use Rattle.method.specs.Numbers.{mostCost}
 use Rattle.method.specs.Tables as method
 use Rattle.method.specs.Steps.{relaxedAll, renewedAll}
 use Rattle.plan.specs.Directions.{opposite}
-use Rattle.plan.specs.Cells.{Size, Stands, Stays, entered}
+use Rattle.plan.specs.Cells.{Stays, entered}
 use Rattle.plan.specs.Grid.{outBy}
-use Rattle.plan.specs.Reached.{At}
 use Rattle.plan.specs.declared.Spot.{Spot}
 use Rattle.entries.specs.declared.Aim.{Aim}
 use Rattle.entries.specs.Aims.{area, floor, hunt}
+use Rattle.entries.specs.Became.{Sited, KeyFits}
 use Rattle.choices.specs.declared.Relaxing.{Relaxing}
 use Rattle.choices.specs.declared.Relaxing.the-variants.{Nothing, To}
 use Rattle.choices.specs.declared.Child.{Child}
@@ -47,15 +47,9 @@ Renews a plan parent u d (Is s) = RenewsAt a plan parent u d s
 abbrev pub Numbers : Type 0
 Numbers = List ℕ
 
--- The stored and the calculated key of cell u can be compared: it stands at `at`, and its numbers differ and are small.
+-- The stored and the calculated key of cell u can be compared: it has both, and the calculated one fits.
 pub record Keyed (a : Aim) (u : ℕ) (at : Spot) (g rhs k1 k2 : List ℕ) : Type 0 where
-  pub size : Size (a .width) (a .height)
-  pub target-in : a .target < area a
-  pub target-at : Stands (a .width) (a .target) (a .row) (a .column)
-  pub inside : u < area a
-  pub stands : At (a .width) u at
-  pub in-g : length g ≡ area a
-  pub in-rhs : length rhs ≡ area a
-  pub in-k1 : length k1 ≡ area a
-  pub in-k2 : length k2 ≡ area a
-  pub fits : min (getD g u 0) (getD rhs u 0) + mostEstimate + a .km < infinite
+  pub sited : Sited a u at g rhs
+  pub long-k1 : length k1 ≡ area a
+  pub long-k2 : length k2 ≡ area a
+  pub fits : KeyFits a g rhs u

@@ -14,8 +14,7 @@ use Rattle.method.proofs.Entries.{first-finite}
 use Rattle.queue.specs.Queue.{absent, members, Heap, Changed, EntryKept}
 use Rattle.queue.proofs.MemberLaws.{missing, member-at, place-member}
 use Rattle.queue.proofs.QueueLaws.{heap-as, changed-nothing, absent-stays}
-use Rattle.plan.specs.Cells.{Stands, estimate}
-use Rattle.plan.specs.Reached.{At, Placed, between}
+use Rattle.plan.specs.Reached.{Placed, between}
 use Rattle.plan.specs.declared.Spot.{Spot}
 use Rattle.plan.proofs.EstimateLaws.{estimate-le}
 use Rattle.plan.proofs.MoveLaws.{placed}
@@ -23,33 +22,33 @@ use Rattle.tables.specs.Lent.{tables, core}
 use Rattle.tables.proofs.WalkLaws.{estimate-at}
 use Rattle.entries.specs.declared.Aim.{Aim}
 use Rattle.entries.specs.Aims.{area, hunt}
-use Rattle.entries.specs.Became.{Entering, Entered}
+use Rattle.entries.specs.Became.{Sited, KeyFits, Entering, Entered}
 
 -- The target's spot.
 abbrev pub goalSpot : Aim → Spot
 goalSpot a = record { row = a .row; column = a .column }
 
--- The first key number as the code adds it up.
-pub first-key-is : (a : Aim) {cell : ℕ} {at : Spot} {m first : ℕ} → At (a .width) cell at → Stands (a .width) (a .target) (a .row) (a .column) → m < infinite
-    → first ≡ m + between at (goalSpot a) + a .km → (plan : List ℕ) → method.firstKey (hunt a plan) cell m ≡ first
-first-key-is a {cell} {at} {m} s t l e plan = first-finite (hunt a plan) cell m l ∙ omega (arith, e, estimate-at {b = goalSpot a} s t)
+-- A cell whose key is to be calculated.
+module _ {a : Aim} {cell : ℕ} {at : Spot} {g rhs : List ℕ} (S : Sited a cell at g rhs) where
+  -- the spots between which it is estimated
+  pub spots-placed : Placed at × (a .row < 64) × (a .column < 64)
+  spots-placed =
+      let q = placed (S .size) (S .stands) (S .inside) in
+      let t = placed (S .size) (S .target-at) (S .target-in) in
+      (record { row = q .0; column = q .1 }, t .0, t .1)
+
+  -- the code's sum stays below infinite
+  pub key-room : {m : ℕ} → KeyFits a g rhs cell → m ≡ min (getD g cell 0) (getD rhs cell 0) → m + between at (goalSpot a) + a .km < infinite
+  key-room f e = omega (arith, f, e, estimate-at {b = goalSpot a} (S .stands) (S .target-at), estimate-le (S .size) cell (a .target) (S .inside) (S .target-in))
+
+  -- and is the method's first number
+  pub first-key-is : {m first : ℕ} → KeyFits a g rhs cell → m ≡ min (getD g cell 0) (getD rhs cell 0) → first ≡ m + between at (goalSpot a) + a .km
+      → (plan : List ℕ) → method.firstKey (hunt a plan) cell m ≡ first
+  first-key-is {m} f em ef plan = first-finite (hunt a plan) cell m (omega (arith, f, em)) ∙ omega (arith, ef, estimate-at {b = goalSpot a} (S .stands) (S .target-at))
 
 module _ {a : Aim} {count cell : ℕ} {at : Spot} {g rhs k1 k2 place list : List ℕ} (E : Entering a count cell at g rhs k1 k2 place list) where
-  pub cell-placed : Placed at
-  cell-placed = let q = placed (E .size) (E .stands) (E .inside) in record { row = q .0; column = q .1 }
-
-  pub goal-placed : (a .row < 64) × (a .column < 64)
-  goal-placed = placed (E .size) (E .target-at) (E .target-in)
-
-  estimate-is : between at (goalSpot a) ≡ estimate (a .width) cell (a .target)
-  estimate-is = estimate-at {b = goalSpot a} (E .stands) (E .target-at)
-
-  -- the key of a cell to be queued fits
-  pub key-room : {m : ℕ} → getD g cell 0 ≢ getD rhs cell 0 → m ≡ min (getD g cell 0) (getD rhs cell 0) → m + between at (goalSpot a) + a .km < infinite
-  key-room n e = omega (arith, E .fits n, e, estimate-is, estimate-le (E .size) cell (a .target) (E .inside) (E .target-in))
-
   place-long : cell < length place
-  place-long = omega (arith, E .inside, E .heap .tables .agree .lengthPlace)
+  place-long = omega (arith, E .sited .inside, E .heap .tables .agree .lengthPlace)
 
   -- the heap, as the queue's calls take it
   pub heap-here : Heap (a .width) (length list) count k1 k2 place list
@@ -65,7 +64,7 @@ module _ {a : Aim} {count cell : ℕ} {at : Spot} {g rhs k1 k2 place list : List
   -- a cell that is put in or taken out: its entry is not what it was
   module _ {r first second : ℕ} {q : Bool} {k1′ k2′ place′ list′ : List ℕ} (C : Changed (a .width) (length list) r cell first second q k1 k2 place k1′ k2′ place′ list′) where
     was : members place′ ≡ members place → getD (members place) cell false ≡ q
-    was = changed-nothing C (E .heap .tables .agree .lengthPlace ∙ sym (E .heap .tables .agree .lengthList)) (omega (arith, E .inside, E .heap .tables .agree .lengthList))
+    was = changed-nothing C (E .heap .tables .agree .lengthPlace ∙ sym (E .heap .tables .agree .lengthList)) (omega (arith, E .sited .inside, E .heap .tables .agree .lengthList))
 
     pub kept-in : q ≡ true → getD place cell 0 ≡ absent → EntryKept count k1 k2 place list r k1′ k2′ place′ list′
     kept-in t o _ _ e = absurd (true≢false (sym (was e ∙ t) ∙ member-at place cell place-long ∙ missing o))
@@ -80,7 +79,7 @@ module _ {a : Aim} {count cell : ℕ} {at : Spot} {g rhs k1 k2 place list : List
     leaves plan parent = sym (choose-yes (ℕ-discrete (getD g cell 0) (getD rhs cell 0)) _ _ e)
 
     pub right-absent : getD place cell 0 ≡ absent → Entered a cell g rhs k1 k2 place list count k1 k2 place list
-    right-absent o = entered-by refl (absent-stays (E .heap) (E .inside) o) leaves
+    right-absent o = entered-by refl (absent-stays (E .heap) (E .sited .inside) o) leaves
 
     pub right-out : {r : ℕ} {k1′ k2′ place′ list′ : List ℕ} → Changed (a .width) (length list) r cell 0 0 false k1 k2 place k1′ k2′ place′ list′
         → Entered a cell g rhs k1 k2 place list r k1′ k2′ place′ list′
@@ -88,8 +87,8 @@ module _ {a : Aim} {count cell : ℕ} {at : Spot} {g rhs k1 k2 place list : List
 
   -- g and rhs differ: the cell is to be queued under its key
   module _ {m first : ℕ} (n : getD g cell 0 ≢ getD rhs cell 0) (em : m ≡ min (getD g cell 0) (getD rhs cell 0)) (ef : first ≡ m + between at (goalSpot a) + a .km) where
-    first-is : (plan : List ℕ) → method.firstKey (hunt a plan) cell (min (getD g cell 0) (getD rhs cell 0)) ≡ first
-    first-is = first-key-is a (E .stands) (E .target-at) (omega (arith, E .fits n)) (omega (arith, em, ef))
+    first-is : (plan : List ℕ) → method.firstKey (hunt a plan) cell m ≡ first
+    first-is = first-key-is (E .sited) (E .fits n) em ef
 
     enters : (plan parent : List ℕ) → method.withEntry (core (tables plan g rhs parent k1 k2 place list)) cell first m true ≡ method.setRight (hunt a plan) (core (tables plan g rhs parent k1 k2 place list)) cell
     unfolding method.setRight method.enter

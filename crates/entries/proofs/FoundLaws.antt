@@ -13,14 +13,13 @@ use Rattle.method.specs.Tables as method
 use Rattle.method.proofs.LeastSums.{anew-least}
 use Rattle.plan.specs.Costs.{Plan, Obeys}
 use Rattle.plan.specs.Grid.{graphOf}
-use Rattle.plan.specs.Reached.{At}
 use Rattle.plan.specs.declared.Spot.{Spot}
 use Rattle.plan.proofs.GridLaws.{graph-laws}
 use Rattle.tables.specs.Lent.{tables, core}
 use Rattle.entries.specs.declared.Aim.{Aim}
 use Rattle.entries.specs.declared.Found.{Found}
-use Rattle.entries.specs.Aims.{area, floor, hunt, mostG, mostRhs, mostKm, Aimed, Held, Small}
-use Rattle.entries.specs.Became.{Became, Entering, Entered, foundOf}
+use Rattle.entries.specs.Aims.{area, floor, hunt, mostG, mostRhs, mostKm, Small, Findable, Ready, ReadyAt}
+use Rattle.entries.specs.Became.{Became, Sited, KeyFits, Entering, Entered, foundOf}
 
 -- A number set in a table of small numbers.
 pub small-set : (l : List ℕ) (i x : ℕ) {bound : ℕ} → i < length l → (x ≡ infinite) ⊎ (x ≤ bound) → Small bound l → Small bound (set l i x)
@@ -65,39 +64,51 @@ key-fits a x y (inl e) (inr f) l n = omega arith
 key-fits a x y (inr e) (inl f) l n = omega arith
 key-fits a x y (inr e) (inr f) l n = omega arith
 
--- The entry of a cell in tables with small numbers can be set right.
-pub entering : {a : Aim} {count cell : ℕ} {at : Spot} {plan g rhs parent k1 k2 place list : List ℕ} → Aimed a plan → Held a count (tables plan g rhs parent k1 k2 place list)
-    → Small mostG g → Small mostRhs rhs → cell < area a → At (a .width) cell at → Entering a count cell at g rhs k1 k2 place list
-entering {a} {cell = cell} A H G R l s = record {
-  size = A .obeys .size;
-  target-in = A .target-in;
-  target-at = A .target-at;
-  inside = l;
-  stands = s;
-  long-g = H .sized .g;
-  long-rhs = H .sized .rhs;
-  heap = H .heap;
-  fits = key-fits a _ _ (G cell) (R cell) (A .km-le);
-}
+-- The sums of a cell can be looked at.
+pub findable : {a : Aim} {most count cell : ℕ} {plan g rhs parent k1 k2 place list : List ℕ} → Ready a most count (tables plan g rhs parent k1 k2 place list) → cell < area a
+    → Findable (a .width) (a .height) plan g cell
+findable R l = record { obeys = R .aimed .obeys; long-g = R .held .sized .g; small-g = R .small-g; inside = l }
 
--- The tables with one cell's rhs and parent set.
-pub held-rhs : {a : Aim} {count : ℕ} {plan g rhs parent k1 k2 place list : List ℕ} (cell r p : ℕ) → Held a count (tables plan g rhs parent k1 k2 place list)
-    → Held a count (tables plan g (set rhs cell r) (set parent cell p) k1 k2 place list)
-held-rhs {rhs = rhs} {parent = parent} cell r p H = record {
-  sized = record {
-    g = H .sized .g;
-    rhs = length-set rhs cell r ∙ H .sized .rhs;
-    parent = length-set parent cell p ∙ H .sized .parent;
-    k1 = H .sized .k1;
-    k2 = H .sized .k2;
-    queued = H .sized .queued;
-  };
-  heap = H .heap;
-}
+-- The key of the cell can be calculated.
+pub sited : {a : Aim} {most count cell : ℕ} {at : Spot} {plan g rhs parent k1 k2 place list : List ℕ} → ReadyAt a most count cell at (tables plan g rhs parent k1 k2 place list) → Sited a cell at g rhs
+sited S =
+    let R = S .ready in
+    record {
+      size = R .aimed .obeys .size;
+      target-in = R .aimed .target-in;
+      target-at = R .aimed .target-at;
+      inside = S .inside;
+      stands = S .stands;
+      long-g = R .held .sized .g;
+      long-rhs = R .held .sized .rhs;
+    }
 
-pub small-rhs : {a : Aim} {count : ℕ} {plan g rhs parent k1 k2 place list : List ℕ} (cell x : ℕ) → Held a count (tables plan g rhs parent k1 k2 place list)
-    → cell < area a → (x ≡ infinite) ⊎ (x ≤ mostRhs) → Small mostRhs rhs → Small mostRhs (set rhs cell x)
-small-rhs {rhs = rhs} cell x H l h S = small-set rhs cell x (omega (arith, H .sized .rhs)) h S
+-- Its entry can be set right.
+pub entering : {a : Aim} {count cell : ℕ} {at : Spot} {plan g rhs parent k1 k2 place list : List ℕ} → ReadyAt a mostRhs count cell at (tables plan g rhs parent k1 k2 place list)
+    → Entering a count cell at g rhs k1 k2 place list
+entering {a} {cell = cell} S =
+    let R = S .ready in
+    record { sited = sited S; heap = R .held .heap; fits = key-fits a _ _ (R .small-g cell) (R .small-rhs cell) (R .aimed .km-le) }
+
+-- The tables with one cell's rhs and parent set, to a number that leaves room for a sum.
+pub ready-set : {a : Aim} {count cell : ℕ} {at : Spot} {plan g rhs parent k1 k2 place list : List ℕ} (r p : ℕ) → ReadyAt a mostRhs count cell at (tables plan g rhs parent k1 k2 place list)
+    → (r ≡ infinite) ⊎ (r ≤ mostRhs) → ReadyAt a mostRhs count cell at (tables plan g (set rhs cell r) (set parent cell p) k1 k2 place list)
+ready-set {cell = cell} {rhs = rhs} {parent = parent} r p S h =
+    let R = S .ready in
+    let z = R .held .sized in
+    record {
+      ready = record {
+        aimed = R .aimed;
+        held = record {
+          sized = record { g = z .g; rhs = length-set rhs cell r ∙ z .rhs; parent = length-set parent cell p ∙ z .parent; k1 = z .k1; k2 = z .k2; queued = z .queued };
+          heap = R .held .heap;
+        };
+        small-g = R .small-g;
+        small-rhs = small-set rhs cell r (omega (arith, z .rhs, S .inside)) h (R .small-rhs);
+      };
+      inside = S .inside;
+      stands = S .stands;
+    }
 
 -- A cell found anew: what `anew` answered was set, and the entry set right.
 pub became-anew : {a : Aim} (cell : ℕ) {count : ℕ} {f : Found} {plan : List ℕ} (g rhs parent k1 k2 place list : List ℕ) {k1′ k2′ place′ list′ : List ℕ}
@@ -109,6 +120,7 @@ became-anew {a} cell {count} {f} {plan} g rhs parent k1 k2 place list e E =
     let B = E plan (set parent cell (f .parent)) in
     record { is = B .is ∙ ap (λ x. method.setRight (hunt a plan) (method.withRhs (core (tables plan g rhs parent k1 k2 place list)) cell (x .sum) (x .code)) cell) e; heap = B .heap }
 
-pub found-small : {a : Aim} {f : Found} {plan : List ℕ} (g : List ℕ) (cell : ℕ) → Aimed a plan → Small mostG g → foundOf f ≡ method.anew (graphOf (floor a plan)) g cell → (f .rhs ≡ infinite) ⊎ (f .rhs ≤ mostRhs)
-found-small {a} {f} {plan} g cell A S e =
-    subst (λ x. (x ≡ infinite) ⊎ (x ≤ mostRhs)) (sym (ap (λ x. x .sum) e)) (anew-small (floor a plan) (A .obeys) g S cell)
+pub found-small : {a : Aim} {f : Found} {plan g rhs parent k1 k2 place list : List ℕ} {count : ℕ} (cell : ℕ) → Ready a mostRhs count (tables plan g rhs parent k1 k2 place list)
+    → foundOf f ≡ method.anew (graphOf (floor a plan)) g cell → (f .rhs ≡ infinite) ⊎ (f .rhs ≤ mostRhs)
+found-small {a} {plan = plan} {g = g} cell R e =
+    subst (λ x. (x ≡ infinite) ⊎ (x ≤ mostRhs)) (sym (ap (λ x. x .sum) e)) (anew-small (floor a plan) (R .aimed .obeys) g (R .small-g) cell)

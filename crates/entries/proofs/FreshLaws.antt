@@ -24,7 +24,7 @@ use Rattle.tables.specs.Lent.{Tables, tables, core, Fits}
 use Rattle.entries.specs.declared.Aim.{Aim}
 use Rattle.entries.specs.Aims.{area, floor, hunt, Aimed, Small}
 use Rattle.entries.specs.Became.{Became, Entering, Entered}
-use Rattle.entries.proofs.FoundLaws.{small-set, entering}
+use Rattle.entries.proofs.FoundLaws.{entering, ready-set}
 
 -- ---- a table filled from the front
 
@@ -128,21 +128,29 @@ module _ {a : Aim} {plan : List ℕ} (A : Aimed a plan) where
   blank-entering : {at : Spot} → At (a .width) (a .hunter) at
       → Entering a 0 (a .hunter) at (replicate (area a) infinite) (set (replicate (area a) infinite) (a .hunter) 0) (replicate (area a) 0) (replicate (area a) 0) (replicate (area a) absent) (replicate (area a) absent)
   blank-entering s =
-      entering {parent = replicate (area a) 0} A
+      entering
+      (ready-set {rhs = replicate (area a) infinite} {parent = replicate (area a) 0} 0 0
       (record {
-        sized = record {
-          g = length-replicate (area a) infinite;
-          rhs = length-set (replicate (area a) infinite) (a .hunter) 0 ∙ length-replicate (area a) infinite;
-          parent = length-replicate (area a) 0;
-          k1 = length-replicate (area a) 0;
-          k2 = length-replicate (area a) 0;
-          queued = ap length (members-none (area a)) ∙ length-replicate (area a) false;
+        ready = record {
+          aimed = A;
+          held = record {
+            sized = record {
+              g = length-replicate (area a) infinite;
+              rhs = length-replicate (area a) infinite;
+              parent = length-replicate (area a) 0;
+              k1 = length-replicate (area a) 0;
+              k2 = length-replicate (area a) 0;
+              queued = ap length (members-none (area a)) ∙ length-replicate (area a) false;
+            };
+            heap = blank-heap;
+          };
+          small-g = small-replicate (area a) infinite (inl refl);
+          small-rhs = small-replicate (area a) infinite (inl refl);
         };
-        heap = blank-heap;
+        inside = A .hunter-in;
+        stands = s;
       })
-      (small-replicate (area a) infinite (inl refl))
-      (small-set (replicate (area a) infinite) (a .hunter) 0 (omega (arith, A .hunter-in, length-replicate {A = ℕ} (area a) infinite)) (inr (omega arith)) (small-replicate (area a) infinite (inl refl)))
-      (A .hunter-in) s
+      (inr (omega arith)))
 
   module _ {g rhs parent k1 k2 place list : List ℕ} (B : Blank a g rhs parent k1 k2 place list) where
     pub fresh-entering : {at : Spot} → At (a .width) (a .hunter) at → Entering a 0 (a .hunter) at g (set rhs (a .hunter) 0) k1 k2 place list

@@ -3,7 +3,7 @@ use mathlib.Core.Path.{_≡_}
 use mathlib.Core.Logic.{_⊎_}
 use mathlib.Core.List.{List}
 use Prim.Native.Nat.{ℕ, _*_, _≤_, _<_}
-use lib.ListN.{getD}
+use lib.ListN.{getD, length}
 use Rattle.method.specs.Numbers.{infinite}
 use Rattle.method.specs.Graph.{Hunt}
 use Rattle.method.specs.Tables.{Sized}
@@ -11,6 +11,8 @@ use Rattle.queue.specs.Queue.{Heap}
 use Rattle.plan.specs.Cells.{Stands}
 use Rattle.plan.specs.Costs.{Plan, planOf, Obeys}
 use Rattle.plan.specs.Grid.{graphOf}
+use Rattle.plan.specs.Reached.{At}
+use Rattle.plan.specs.declared.Spot.{Spot}
 use Rattle.tables.specs.declared.Session.{Session}
 use Rattle.tables.specs.Lent.{Tables, core}
 use Rattle.entries.specs.declared.Aim.{Aim}
@@ -62,3 +64,23 @@ pub record Held (a : Aim) (count : ℕ) (t : Tables) : Type 0 where
 -- Every number of a table is infinite or at most `bound`.
 abbrev pub Small : ℕ → List ℕ → Type 0
 Small bound l = (k : ℕ) → (getD l k 0 ≡ infinite) ⊎ (getD l k 0 ≤ bound)
+
+-- A cell's rhs can be found anew: an obedient plan, a g for each cell that leaves room for a cost, and a cell of the plan.
+pub record Findable (width height : ℕ) (plan g : List ℕ) (s : ℕ) : Type 0 where
+  pub obeys : Obeys (planOf width height plan)
+  pub long-g : length g ≡ height * width
+  pub small-g : Small mostG g
+  pub inside : s < height * width
+
+-- The tables can be worked on: an aim, their lengths and a true heap, and numbers that leave room for a sum; `most` is the greatest finite rhs.
+pub record Ready (a : Aim) (most count : ℕ) (t : Tables) : Type 0 where
+  pub aimed : Aimed a (t .plan)
+  pub held : Held a count t
+  pub small-g : Small mostG (t .g)
+  pub small-rhs : Small most (t .rhs)
+
+-- .. at a cell, whose spot is `at`.
+pub record ReadyAt (a : Aim) (most count cell : ℕ) (at : Spot) (t : Tables) : Type 0 where
+  pub ready : Ready a most count t
+  pub inside : cell < area a
+  pub stands : At (a .width) cell at

@@ -19,8 +19,8 @@ pub record Became (a : Aim) (count : ℕ) (t : Tables) (m : method.Tables) : Typ
   pub is : core t ≡ m
   pub heap : Heap (a .width) (area a) count (t .k1) (t .k2) (t .place) (t .list)
 
--- A cell's entry can be set right: it stands at `at`, and where it is to be queued its key fits.
-pub record Entering (a : Aim) (count cell : ℕ) (at : Spot) (g rhs k1 k2 place list : List ℕ) : Type 0 where
+-- A cell and the target stand where they are said to, and each cell has a g and a rhs: what a cell's key is calculated from.
+pub record Sited (a : Aim) (cell : ℕ) (at : Spot) (g rhs : List ℕ) : Type 0 where
   pub size : Size (a .width) (a .height)
   pub target-in : a .target < area a
   pub target-at : Stands (a .width) (a .target) (a .row) (a .column)
@@ -28,8 +28,16 @@ pub record Entering (a : Aim) (count cell : ℕ) (at : Spot) (g rhs k1 k2 place 
   pub stands : At (a .width) cell at
   pub long-g : length g ≡ area a
   pub long-rhs : length rhs ≡ area a
+
+-- Its key fits.
+abbrev pub KeyFits : Aim → List ℕ → List ℕ → ℕ → Type 0
+KeyFits a g rhs cell = min (getD g cell 0) (getD rhs cell 0) + mostEstimate + a .km < infinite
+
+-- Its entry can be set right: where it is to be queued its key fits.
+pub record Entering (a : Aim) (count cell : ℕ) (at : Spot) (g rhs k1 k2 place list : List ℕ) : Type 0 where
+  pub sited : Sited a cell at g rhs
   pub heap : Heap (a .width) (area a) count k1 k2 place list
-  pub fits : (getD g cell 0 ≡ getD rhs cell 0 → ⊥) → min (getD g cell 0) (getD rhs cell 0) + mostEstimate + a .km < infinite
+  pub fits : (getD g cell 0 ≡ getD rhs cell 0 → ⊥) → KeyFits a g rhs cell
 
 -- It was set right, whatever the plan and the parents are.
 abbrev pub Entered : Aim → ℕ → List ℕ → List ℕ → List ℕ → List ℕ → List ℕ → List ℕ → ℕ → List ℕ → List ℕ → List ℕ → List ℕ → Type 0

@@ -6,17 +6,17 @@ use queue;
 use tables;
 use tables::Session;
 ghost use mathlib.Core.Path.{_≡_};
-ghost use Prim.Native.Nat.{_+_, _*_, _<_, _≤_};
+ghost use Prim.Native.Nat.{_+_, _<_, _≤_};
 ghost use lib.ListN.{length, replicate};
 ghost use Rattle.method.specs.Numbers.{infinite};
 ghost use Rattle.method.specs.Tables.{leastOver, anew as anewOf, foundAnew};
 ghost use Rattle.method.specs.Session.{fresh as freshOf};
 ghost use Rattle.queue.specs.Queue.{EntryKept};
-ghost use Rattle.plan.specs.Costs.{Obeys, planOf};
+ghost use Rattle.plan.specs.Costs.{planOf};
 ghost use Rattle.plan.specs.Grid.{intoBy, graphOf};
-ghost use Rattle.plan.specs.Reached.{At, Placed, between};
+ghost use Rattle.plan.specs.Reached.{Placed, between};
 ghost use Rattle.tables.specs.Lent.{core, given, before, after, Fits};
-ghost use Rattle.entries.specs.Aims.{area, floor, hunt, AimOf, Aimed, Held, Small, mostG, mostRhs};
+ghost use Rattle.entries.specs.Aims.{area, floor, hunt, AimOf, Aimed, Small, mostRhs, Findable, ReadyAt};
 ghost use Rattle.entries.specs.Begin.{Openable, begun, Opened};
 ghost use Rattle.entries.specs.Became.{Became, Entering, Entered, foundOf};
 
@@ -112,9 +112,7 @@ fn looked_at(
     best: Found,
     d: usize,
 ) -> Found
-    requires { ⌜ Obeys (planOf width height (now plan)) ⌝ }
-    requires { ⌜ (length (now g) ≡ height * width) × Small mostG (now g) ⌝ }
-    requires { ⌜ (s < height * width) × (d < 4) ⌝ }
+    requires { ⌜ Findable width height (now plan) (now g) s × (d < 4) ⌝ }
     ensures { λ r. ⌜ foundOf r ≡ leastOver (now (g .entry)) (foundOf best) (intoBy (planOf width height (now (plan .entry))) s d) ⌝ }
 {
     let reach = plan::move_into(width, height, plan, s, d);
@@ -137,9 +135,7 @@ fn looked_at(
 
 // The first least sum over the neighbours in direction order, with its parent byte.
 pub fn anew(width: usize, height: usize, plan: &[u8], g: &[u32], s: usize) -> Found
-    requires { ⌜ Obeys (planOf width height (now plan)) ⌝ }
-    requires { ⌜ (length (now g) ≡ height * width) × Small mostG (now g) ⌝ }
-    requires { ⌜ s < height * width ⌝ }
+    requires { ⌜ Findable width height (now plan) (now g) s ⌝ }
     ensures { λ r. ⌜ foundOf r ≡ anewOf (graphOf (planOf width height (now (plan .entry)))) (now (g .entry)) s ⌝ }
 {
     let mut best = Found {
@@ -167,10 +163,7 @@ pub fn found_anew(
     cell: usize,
     at: Spot,
 ) -> usize
-    requires { ⌜ Aimed a (now plan) ⌝ }
-    requires { ⌜ Held a count (given plan g rhs parent k1 k2 place list) ⌝ }
-    requires { ⌜ Small mostG (now g) × Small mostRhs (now rhs) ⌝ }
-    requires { ⌜ (cell < area a) × At (a .width) cell at ⌝ }
+    requires { ⌜ ReadyAt a mostRhs count cell at (given plan g rhs parent k1 k2 place list) ⌝ }
     ensures { λ r. ⌜ Became a r (after plan g rhs parent k1 k2 place list) (foundAnew (hunt a (now (plan .entry))) (core (before plan g rhs parent k1 k2 place list)) cell) ⌝ }
     ensures { λ _. ⌜ Small mostRhs (now (rhs .exit)) ⌝ }
     ensures { λ r. ⌜ EntryKept count (now (k1 .entry)) (now (k2 .entry)) (now (place .entry)) (now (list .entry)) r (now (k1 .exit)) (now (k2 .exit)) (now (place .exit)) (now (list .exit)) ⌝ }

@@ -1,7 +1,7 @@
 -- The loop over the tables is the method's run.
 use mathlib.Core.Path.{_≡_, refl, sym, ap, subst, _∙_}
 use mathlib.Core.Bool.{Bool, true, false}
-use mathlib.Core.Logic.{⊎-elim, _≢_}
+use mathlib.Core.Logic.{⊎-elim}
 use mathlib.Core.Option.{some}
 use mathlib.Core.List.{List, []}
 use Prim.Native.Nat.{ℕ, suc, _+_, _-_, _*_, _≤_, _<_}
@@ -19,10 +19,11 @@ use Rattle.method.proofs.Running.{run-zero, run-none, run-some, pick-next, duri
 use Rattle.method.proofs.Stepping.{stepped-sized}
 use Rattle.tables.specs.Lent.{Tables, tables, core}
 use Rattle.entries.specs.declared.Aim.{Aim}
-use Rattle.entries.specs.Aims.{area, hunt, mostG, Aimed, Held, Small}
+use Rattle.entries.specs.Aims.{area, hunt, mostG, Aimed, Held, Ready}
 use Rattle.entries.specs.Became.{Became}
 use Rattle.entries.proofs.SmallLaws.{small-by}
 use Rattle.choices.specs.Next.{Choosing, Chosen, nextOf}
+use Rattle.steps.specs.Ready.{Stepping}
 use Rattle.steps.specs.Loop.{Started, Finished}
 use Rattle.choices.specs.declared.Choice.{Choice}
 use Rattle.choices.specs.declared.Choice.the-variants.{Done, On}
@@ -73,11 +74,13 @@ module _ {a : Aim} {count₀ count limit steps : ℕ} {t₀ : Tables} {plan g rh
   small : FiniteUpTo (area a) mostG (core (tables plan g rhs parent k1 k2 place list))
   small = up-to-more (G .small) (during-up-to (G .during))
 
-  pub g-small : Small mostG g
-  g-small = small-by g (area a) (G .held .sized .g) (small .g)
-
-  pub rhs-small : Small mostG rhs
-  rhs-small = small-by rhs (area a) (G .held .sized .rhs) (small .rhs)
+  pub ready : Ready a mostG count (tables plan g rhs parent k1 k2 place list)
+  ready = record {
+    aimed = A;
+    held = G .held;
+    small-g = small-by g (area a) (G .held .sized .g) (small .g);
+    small-rhs = small-by rhs (area a) (G .held .sized .rhs) (small .rhs);
+  }
 
   pub choosing : Choosing a count g rhs k1 k2 place list
   choosing = record {
@@ -86,7 +89,7 @@ module _ {a : Aim} {count₀ count limit steps : ℕ} {t₀ : Tables} {plan g rh
     in-g = G .held .sized .g;
     in-rhs = G .held .sized .rhs;
     heap = G .held .heap;
-    goal = λ n. ⊎-elim (λ (e : getD rhs (a .target) 0 ≡ infinite). absurd (n e)) (λ (h : getD rhs (a .target) 0 ≤ mostG). omega (arith, A .km-le)) (rhs-small (a .target));
+    goal = λ n. ⊎-elim (λ (e : getD rhs (a .target) 0 ≡ infinite). absurd (n e)) (λ (h : getD rhs (a .target) 0 ≤ mostG). omega (arith, A .km-le)) (ready .small-rhs (a .target));
   }
 
   -- the cell chosen is one to step on
@@ -94,8 +97,8 @@ module _ {a : Aim} {count₀ count limit steps : ℕ} {t₀ : Tables} {plan g rh
     next-on : nextCell (hunt a plan) (core (tables plan g rhs parent k1 k2 place list)) ≡ some u
     next-on = sym (C plan parent list) ∙ ap nextOf e
 
-    pub taken-in : (u < area a) × (getD g u 0 ≢ getD rhs u 0)
-    taken-in = let P = pick-next (G .during) next-on in (P .u-in, P .queued)
+    pub stepping : Stepping a count u (tables plan g rhs parent k1 k2 place list)
+    stepping = let P = pick-next (G .during) next-on in record { ready = ready; inside = P .u-in; differ = P .queued }
 
     pub going-more : {n : ℕ} {g′ rhs′ parent′ k1′ k2′ place′ list′ : List ℕ} → steps < limit
         → Became a n (tables plan g′ rhs′ parent′ k1′ k2′ place′ list′) (stepped (hunt a plan) (core (tables plan g rhs parent k1 k2 place list)) u)

@@ -25,14 +25,15 @@ use Rattle.plan.proofs.CellLaws.{stands-row, stands-column}
 use Rattle.plan.proofs.MoveLaws.{placed, moved-at}
 use Rattle.tables.specs.Lent.{Tables, tables, core}
 use Rattle.entries.specs.declared.Aim.{Aim}
-use Rattle.entries.specs.Aims.{area, floor, hunt, mostG, mostRhs, Aimed, Held, Small}
-use Rattle.entries.specs.Became.{Became}
-use Rattle.entries.proofs.FoundLaws.{small-set, small-more, key-fits}
+use Rattle.entries.specs.Aims.{area, floor, hunt, mostG, mostRhs, Held, Small, Ready, ReadyAt}
+use Rattle.entries.specs.Became.{Became, Entering}
+use Rattle.entries.proofs.FoundLaws.{small-set, small-more, key-fits, sited, entering}
 use Rattle.choices.specs.declared.Relaxing.{Relaxing}
 use Rattle.choices.specs.declared.Relaxing.the-variants.{Nothing, To}
 use Rattle.choices.specs.declared.Child.{Child}
 use Rattle.choices.specs.declared.Child.the-variants.{Not, Is}
 use Rattle.choices.specs.Moves.{Enters, RelaxesTo, Relaxes, RenewsAt, Renews, Keyed}
+use Rattle.steps.specs.Ready.{Facing, Lowering, Stepping}
 
 -- ---- what holds of the tables after an inner function
 
@@ -45,24 +46,45 @@ became-same H e = record { is = sym e; heap = H .heap }
 pub became-held : {a : Aim} {count : ℕ} {t : Tables} {m : method.Tables} → method.Sized (area a) m → Became a count t m → Held a count t
 became-held {a} z B = record { sized = subst (method.Sized (area a)) (sym (B .is)) z; heap = B .heap }
 
--- g of one cell set
-pub held-g : {a : Aim} {count : ℕ} {plan g rhs parent k1 k2 place list : List ℕ} (u v : ℕ) → Held a count (tables plan g rhs parent k1 k2 place list) → Held a count (tables plan (set g u v) rhs parent k1 k2 place list)
-held-g {g = g} u v H = record {
-  sized = record { g = length-set g u v ∙ H .sized .g; rhs = H .sized .rhs; parent = H .sized .parent; k1 = H .sized .k1; k2 = H .sized .k2; queued = H .sized .queued };
-  heap = H .heap;
-}
+-- .. which kept plan and g, and left rhs that leave room for a sum
+pub ready-after : {a : Aim} {count n : ℕ} {plan g rhs parent k1 k2 place list rhs′ parent′ k1′ k2′ place′ list′ : List ℕ} {m : method.Tables}
+    → Ready a mostRhs count (tables plan g rhs parent k1 k2 place list) → method.Sized (area a) m → Became a n (tables plan g rhs′ parent′ k1′ k2′ place′ list′) m → Small mostRhs rhs′
+    → Ready a mostRhs n (tables plan g rhs′ parent′ k1′ k2′ place′ list′)
+ready-after R z B S = record { aimed = R .aimed; held = became-held z B; small-g = R .small-g; small-rhs = S }
+
+-- g of u set, as lower and raise do first: from now on rhs may grow by a cost
+pub g-set : {a : Aim} {count u : ℕ} {at : Spot} {plan g rhs parent k1 k2 place list : List ℕ} (v : ℕ) → ReadyAt a mostG count u at (tables plan g rhs parent k1 k2 place list)
+    → (v ≡ infinite) ⊎ (v ≤ mostG) → ReadyAt a mostRhs count u at (tables plan (set g u v) rhs parent k1 k2 place list)
+g-set {u = u} {g = g} {rhs = rhs} v S h =
+    let R = S .ready in
+    let z = R .held .sized in
+    record {
+      ready = record {
+        aimed = R .aimed;
+        held = record { sized = record { g = length-set g u v ∙ z .g; rhs = z .rhs; parent = z .parent; k1 = z .k1; k2 = z .k2; queued = z .queued }; heap = R .held .heap };
+        small-g = small-set g u v (omega (arith, z .g, S .inside)) h (R .small-g);
+        small-rhs = small-more rhs (omega arith) (R .small-rhs);
+      };
+      inside = S .inside;
+      stands = S .stands;
+    }
 
 -- ---- the cell entered
 
 -- the spot moved to can be computed, and is the cell's
-module _ {a : Aim} {plan : List ℕ} (A : Aimed a plan) {u d s : ℕ} (E : Enters a u d s) {at : Spot} (w : At (a .width) u at) where
-  pub move-asks : d < 4 → ((d < 4) × Placed at) × ((1 ≤ at .row + rowStep d) × (1 ≤ at .column + columnStep d))
-  move-asks l =
-      let q = placed (A .obeys .size) w (E .stays-in .from-in) in
-      ((l, record { row = q .0; column = q .1 }), (omega (arith, E .stays-in .north, stands-row w), omega (arith, E .stays-in .west, stands-column w)))
+module _ {a : Aim} {count u d s : ℕ} {at : Spot} {t : Tables} (F : Facing a count u at d t) (E : Enters a u d s) where
+  pub move-asks : ((d < 4) × Placed at) × ((1 ≤ at .row + rowStep d) × (1 ≤ at .column + columnStep d))
+  move-asks =
+      let w = F .here .stands in
+      let q = placed (F .here .ready .aimed .obeys .size) w (F .here .inside) in
+      ((F .direction, record { row = q .0; column = q .1 }), (omega (arith, E .stays-in .north, stands-row w), omega (arith, E .stays-in .west, stands-column w)))
 
-  pub entered-at : {to : Spot} → (to .row + 1 ≡ at .row + rowStep d) × (to .column + 1 ≡ at .column + columnStep d) → At (a .width) s to
-  entered-at {to} e = subst (λ x. At (a .width) x to) (sym (E .cell)) (moved-at {to = to} (A .obeys .size .wide) w (E .stays-in) e)
+  pub entered-ready : {to : Spot} → (to .row + 1 ≡ at .row + rowStep d) × (to .column + 1 ≡ at .column + columnStep d) → ReadyAt a mostRhs count s to t
+  entered-ready {to} e = record {
+    ready = F .here .ready;
+    inside = E .inside;
+    stands = subst (λ x. At (a .width) x to) (sym (E .cell)) (moved-at {to = to} (F .here .ready .aimed .obeys .size .wide) (F .here .stands) (E .stays-in) e);
+  }
 
 pub asked-nothing : (a : Aim) (plan rhs : List ℕ) (v u d : ℕ) {r : Relaxing} → r ≡ Nothing → Relaxes a plan rhs v u d r → (T : method.Tables) → T .rhs ≡ rhs → relaxedAll (hunt a plan) v T (outBy (floor a plan) u d) ≡ T
 asked-nothing a plan rhs v u d e R = subst (Relaxes a plan rhs v u d) e R
@@ -101,17 +123,13 @@ renewed-first H T m = refl
 -- ---- lower
 
 -- rhs below g: it is finite
-pub lower-finite : {a : Aim} {count : ℕ} {plan g rhs parent k1 k2 place list : List ℕ} (u : ℕ) → Held a count (tables plan g rhs parent k1 k2 place list)
-    → Small mostG g → Small mostG rhs → getD rhs u 0 < getD g u 0 → getD rhs u 0 ≤ mostG
-lower-finite {g = g} {rhs = rhs} u H G R l =
+pub lower-finite : {a : Aim} {count u : ℕ} {at : Spot} {plan g rhs parent k1 k2 place list : List ℕ} → Lowering a count u at (tables plan g rhs parent k1 k2 place list) → getD rhs u 0 ≤ mostG
+lower-finite {u = u} {g = g} {rhs = rhs} L =
+    let R = L .here .ready in
     ⊎-elim
-    (λ (e : getD rhs u 0 ≡ infinite). absurd (⊎-elim (λ (f : getD g u 0 ≡ infinite). omega arith) (λ (f : getD g u 0 ≤ mostG). omega arith) (G u)))
+    (λ (e : getD rhs u 0 ≡ infinite). absurd (⊎-elim (λ (f : getD g u 0 ≡ infinite). omega (arith, L .over)) (λ (f : getD g u 0 ≤ mostG). omega (arith, L .over)) (R .small-g u)))
     (λ (h : getD rhs u 0 ≤ mostG). h)
-    (R u)
-
--- what is small for a g is small for a rhs
-pub rhs-small : {a : Aim} {count : ℕ} {plan g rhs parent k1 k2 place list : List ℕ} → Held a count (tables plan g rhs parent k1 k2 place list) → Small mostG rhs → Small mostRhs rhs
-rhs-small {rhs = rhs} H R = small-more rhs (omega arith) R
+    (R .small-rhs u)
 
 module _ (a : Aim) (u : ℕ) (plan g rhs parent k1 k2 place list : List ℕ) where
   -- u's g is its rhs, so it leaves the queue
@@ -161,23 +179,24 @@ module _ (H : Hunt) (T : method.Tables) (u : ℕ) where
       ∙ choose-no (decLt (method.rhsAt T u) (method.gAt T u)) _ _ (λ x. omega arith) in
       sym (ap (λ k. steppedBy k H T u) kind)
 
--- the keys of a queued cell can be compared
-pub keyed : {a : Aim} {count u : ℕ} {at : Spot} {plan g rhs parent k1 k2 place list : List ℕ} → Aimed a plan → Held a count (tables plan g rhs parent k1 k2 place list)
-    → Small mostG g → Small mostG rhs → u < area a → At (a .width) u at → getD g u 0 ≢ getD rhs u 0 → Keyed a u at g rhs k1 k2
-keyed {a} {u = u} {rhs = rhs} A H G R l s n = record {
-  size = A .obeys .size;
-  target-in = A .target-in;
-  target-at = A .target-at;
-  inside = l;
-  stands = s;
-  in-g = H .sized .g;
-  in-rhs = H .sized .rhs;
-  in-k1 = H .sized .k1;
-  in-k2 = H .sized .k2;
-  fits = key-fits a _ _ (G u) (small-more rhs (omega arith) R u) (A .km-le) n;
-}
+-- the cell of a step, its spot found
+pub step-here : {a : Aim} {count u : ℕ} {at : Spot} {t : Tables} → Stepping a count u t → At (a .width) u at → ReadyAt a mostG count u at t
+step-here S w = record { ready = S .ready; inside = S .inside; stands = w }
 
--- g of one cell set to a small number
-pub small-g : {a : Aim} {count : ℕ} {plan g rhs parent k1 k2 place list : List ℕ} (u x : ℕ) → Held a count (tables plan g rhs parent k1 k2 place list)
-    → u < area a → (x ≡ infinite) ⊎ (x ≤ mostG) → Small mostG g → Small mostG (set g u x)
-small-g {g = g} u x H l h S = small-set g u x (omega (arith, H .sized .g)) h S
+-- its entry can be set right
+pub step-entering : {a : Aim} {count u : ℕ} {at : Spot} {plan g rhs parent k1 k2 place list : List ℕ} → Stepping a count u (tables plan g rhs parent k1 k2 place list) → At (a .width) u at
+    → Entering a count u at g rhs k1 k2 place list
+step-entering {rhs = rhs} S w =
+    let R = S .ready in
+    entering (record { ready = record { aimed = R .aimed; held = R .held; small-g = R .small-g; small-rhs = small-more rhs (omega arith) (R .small-rhs) }; inside = S .inside; stands = w })
+
+-- its keys can be compared
+pub keyed : {a : Aim} {count u : ℕ} {at : Spot} {plan g rhs parent k1 k2 place list : List ℕ} → Stepping a count u (tables plan g rhs parent k1 k2 place list) → At (a .width) u at → Keyed a u at g rhs k1 k2
+keyed {a} {u = u} {rhs = rhs} S w =
+    let R = S .ready in
+    record {
+      sited = sited (step-here S w);
+      long-k1 = R .held .sized .k1;
+      long-k2 = R .held .sized .k2;
+      fits = key-fits a _ _ (R .small-g u) (small-more rhs (omega arith) (R .small-rhs) u) (R .aimed .km-le) (S .differ);
+    }

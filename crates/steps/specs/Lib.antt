@@ -1,2 +1,3 @@
--- The loop of steps over the tables.
+-- The loop of steps over the tables (Loop), and what its steps rest on (Ready).
+pub mod Ready
 pub mod Loop

@@ -5,16 +5,13 @@ use entries::Aim;
 use plan;
 use plan::Spot;
 use tables;
-ghost use mathlib.Core.Path.{_≡_};
-ghost use Prim.Native.Nat.{_+_, _*_, _<_, _≤_};
-ghost use lib.ListN.{getD};
+ghost use Prim.Native.Nat.{_≤_};
 ghost use Rattle.method.specs.Steps.{relaxedAll, lowered, renewedAll, raised, stepped};
-ghost use Rattle.queue.specs.Queue.{EntryKept};
 ghost use Rattle.plan.specs.Grid.{outBy};
-ghost use Rattle.plan.specs.Reached.{At};
 ghost use Rattle.tables.specs.Lent.{core, given, before, after};
-ghost use Rattle.entries.specs.Aims.{area, floor, hunt, mostG, mostRhs, Aimed, Held, Small};
+ghost use Rattle.entries.specs.Aims.{floor, hunt, mostG, mostRhs, Aimed, Small, ReadyAt};
 ghost use Rattle.entries.specs.Became.{Became};
+ghost use Rattle.steps.specs.Ready.{Facing, Lowering, Stepping};
 ghost use Rattle.steps.specs.Loop.{Started, Finished};
 
 // Lower, one direction: the cell entered gets a smaller rhs with parent u, and its entry is set right.
@@ -34,13 +31,9 @@ fn relax(
     at: Spot,
     d: usize,
 ) -> usize
-    requires { ⌜ Aimed a (now plan) ⌝ }
-    requires { ⌜ Held a count (given plan g rhs parent k1 k2 place list) ⌝ }
-    requires { ⌜ Small mostG (now g) × Small mostRhs (now rhs) ⌝ }
-    requires { ⌜ (u < area a) × At (a .width) u at × (d < 4) × (v ≤ mostG) ⌝ }
+    requires { ⌜ Facing a count u at d (given plan g rhs parent k1 k2 place list) × (v ≤ mostG) ⌝ }
     ensures { λ r. ⌜ Became a r (after plan g rhs parent k1 k2 place list) (relaxedAll (hunt a (now (plan .entry))) v (core (before plan g rhs parent k1 k2 place list)) (outBy (floor a (now (plan .entry))) u d)) ⌝ }
     ensures { λ _. ⌜ Small mostRhs (now (rhs .exit)) ⌝ }
-    ensures { λ r. ⌜ EntryKept count (now (k1 .entry)) (now (k2 .entry)) (now (place .entry)) (now (list .entry)) r (now (k1 .exit)) (now (k2 .exit)) (now (place .exit)) (now (list .exit)) ⌝ }
 {
     let asked = choices::relaxation(a, plan, rhs, v, u, d);
     let choices::Relaxing::To(s, sum) = asked else {
@@ -67,10 +60,7 @@ fn lower(
     u: usize,
     at: Spot,
 ) -> usize
-    requires { ⌜ Aimed a (now plan) ⌝ }
-    requires { ⌜ Held a count (given plan g rhs parent k1 k2 place list) ⌝ }
-    requires { ⌜ Small mostG (now g) × Small mostG (now rhs) ⌝ }
-    requires { ⌜ (u < area a) × At (a .width) u at × (getD (now rhs) u 0 < getD (now g) u 0) ⌝ }
+    requires { ⌜ Lowering a count u at (given plan g rhs parent k1 k2 place list) ⌝ }
     ensures { λ r. ⌜ Became a r (after plan g rhs parent k1 k2 place list) (lowered (hunt a (now (plan .entry))) (core (before plan g rhs parent k1 k2 place list)) u) ⌝ }
 {
     let v = rhs[u];
@@ -98,13 +88,9 @@ fn renew(
     at: Spot,
     d: usize,
 ) -> usize
-    requires { ⌜ Aimed a (now plan) ⌝ }
-    requires { ⌜ Held a count (given plan g rhs parent k1 k2 place list) ⌝ }
-    requires { ⌜ Small mostG (now g) × Small mostRhs (now rhs) ⌝ }
-    requires { ⌜ (u < area a) × At (a .width) u at × (d < 4) ⌝ }
+    requires { ⌜ Facing a count u at d (given plan g rhs parent k1 k2 place list) ⌝ }
     ensures { λ r. ⌜ Became a r (after plan g rhs parent k1 k2 place list) (renewedAll (hunt a (now (plan .entry))) (core (before plan g rhs parent k1 k2 place list)) (outBy (floor a (now (plan .entry))) u d)) ⌝ }
     ensures { λ _. ⌜ Small mostRhs (now (rhs .exit)) ⌝ }
-    ensures { λ r. ⌜ EntryKept count (now (k1 .entry)) (now (k2 .entry)) (now (place .entry)) (now (list .entry)) r (now (k1 .exit)) (now (k2 .exit)) (now (place .exit)) (now (list .exit)) ⌝ }
 {
     let asked = choices::child_by(a, plan, parent, u, d);
     let choices::Child::Is(s) = asked else {
@@ -129,10 +115,7 @@ fn raise(
     u: usize,
     at: Spot,
 ) -> usize
-    requires { ⌜ Aimed a (now plan) ⌝ }
-    requires { ⌜ Held a count (given plan g rhs parent k1 k2 place list) ⌝ }
-    requires { ⌜ Small mostG (now g) × Small mostG (now rhs) ⌝ }
-    requires { ⌜ (u < area a) × At (a .width) u at ⌝ }
+    requires { ⌜ ReadyAt a mostG count u at (given plan g rhs parent k1 k2 place list) ⌝ }
     ensures { λ r. ⌜ Became a r (after plan g rhs parent k1 k2 place list) (raised (hunt a (now (plan .entry))) (core (before plan g rhs parent k1 k2 place list)) u) ⌝ }
 {
     g[u] = tables::INFINITE;
@@ -157,10 +140,7 @@ fn step(
     count: usize,
     u: usize,
 ) -> usize
-    requires { ⌜ Aimed a (now plan) ⌝ }
-    requires { ⌜ Held a count (given plan g rhs parent k1 k2 place list) ⌝ }
-    requires { ⌜ Small mostG (now g) × Small mostG (now rhs) ⌝ }
-    requires { ⌜ (u < area a) × (getD (now g) u 0 ≡ getD (now rhs) u 0 → ⊥) ⌝ }
+    requires { ⌜ Stepping a count u (given plan g rhs parent k1 k2 place list) ⌝ }
     ensures { λ r. ⌜ Became a r (after plan g rhs parent k1 k2 place list) (stepped (hunt a (now (plan .entry))) (core (before plan g rhs parent k1 k2 place list)) u) ⌝ }
 {
     let at = plan::spot_of(a.width, u);

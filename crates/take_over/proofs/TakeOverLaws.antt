@@ -22,11 +22,10 @@ use Rattle.tables.specs.Sound.{Sound}
 use Rattle.tables.proofs.SoundLaws.{sound-fits}
 use Rattle.tables.proofs.WalkLaws.{estimate-at}
 use Rattle.entries.specs.declared.Aim.{Aim}
-use Rattle.entries.specs.Aims as aims
-use Rattle.entries.specs.Aims.{AimOf, hunt, Aimed, Held}
+use Rattle.entries.specs.Aims.{AimOf, hunt, mostRhs, ReadyAt}
 use Rattle.entries.specs.Became.{Became}
 use Rattle.entries.specs.Begin.{Openable, begun, Opened}
-use Rattle.entries.proofs.AimLaws.{aimed, became-of}
+use Rattle.entries.proofs.AimLaws.{ready-of, became-of}
 use Rattle.entries.proofs.SmallLaws.{sound-small-g, sound-small-rhs}
 use Rattle.take_over.specs.TakeOver.{aimedAnew, handOver, Aiming, Handing, Holds, Takes}
 
@@ -69,26 +68,29 @@ abbrev pub orphaned : Session → Tables → Tables
 orphaned s t = tables (t .plan) (t .g) (t .rhs) (set (t .parent) (s .hunter) 0) (t .k1) (t .k2) (t .place) (t .list)
 
 module _ {s : Session} {t : Tables} {a : Aim} (R : Handing s t) (O : AimOf (handed s (s .count)) a) where
-  pub hand-aimed : Aimed a (t .plan)
-  hand-aimed = aimed O (R .obeys) (R .new-in) (R .goal-in) (R .km-le)
-
-  pub hand-held : Held a (s .count) (orphaned s t)
-  hand-held =
-      subst (λ x. Held x (s .count) (orphaned s t)) (sym (O .is))
+  pub hand-ready : {at : Spot} → At (s .width) (s .origin) at → ReadyAt a mostRhs (s .count) (s .origin) at (orphaned s t)
+  hand-ready h =
+      ready-of O
       (record {
-        sized = record {
-          g = R .sized .g;
-          rhs = R .sized .rhs;
-          parent = length-set (t .parent) (s .hunter) 0 ∙ R .sized .parent;
-          k1 = R .sized .k1;
-          k2 = R .sized .k2;
-          queued = R .sized .queued;
+        ready = record {
+          aimed = record { obeys = R .obeys; hunter-in = R .new-in; target-in = R .goal-in; target-at = O .target-at; km-le = R .km-le };
+          held = record {
+            sized = record {
+              g = R .sized .g;
+              rhs = R .sized .rhs;
+              parent = length-set (t .parent) (s .hunter) 0 ∙ R .sized .parent;
+              k1 = R .sized .k1;
+              k2 = R .sized .k2;
+              queued = R .sized .queued;
+            };
+            heap = R .heap;
+          };
+          small-g = R .small-g;
+          small-rhs = R .small-rhs;
         };
-        heap = R .heap;
+        inside = R .old-in;
+        stands = h;
       })
-
-  pub hand-cell : {at : Spot} → At (s .width) (s .origin) at → (s .origin < aims.area a) × At (a .width) (s .origin) at
-  hand-cell {at} h = subst (λ x. (s .origin < aims.area x) × At (x .width) (s .origin) at) (sym (O .is)) (R .old-in, h)
 
   pub hand-holds : {count : ℕ} {t′ : Tables} → Became a count t′ (method.foundAnew (hunt a (t .plan)) (core (orphaned s t)) (s .origin)) → Holds s (handOver s t) (handed s count) t′
   unfolding calls.handedOver

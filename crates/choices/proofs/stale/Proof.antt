@@ -1,5 +1,5 @@
-use Rattle.plan.proofs.MoveLaws.{placed}
-use Rattle.choices.proofs.KeyLaws.{stale-is, key-room}
+use Rattle.entries.proofs.EntryLaws.{spots-placed, key-room}
+use Rattle.choices.proofs.KeyLaws.{stale-is}
 use borrow.Author.Needs.{needs}
 use Rattle.choices.proofs.stale.Statement.{statement}
 use Rattle.choices.proofs.stale.Tie as tie
@@ -24,11 +24,7 @@ lesser-requires : tie.Need-lesser-requires
 lesser-requires c κs = search needs
 
 first-key-requires : tie.Need-first-key-requires
-first-key-requires c κs =
-    let K = at-start c .pre in
-    let q = placed (K .size) (K .stands) (K .inside) in
-    let r = placed (K .size) (K .target-at) (K .target-in) in
-    ((record { row = q .0; column = q .1 }, r .0, r .1), key-room K (c .lesser .ensures))
+first-key-requires c κs = let K = at-start c .pre in (spots-placed (K .sited), key-room (K .sited) (K .fits) (c .lesser .ensures))
 
 mul-precedes : tie.Need-mul-precedes
 mul-precedes c = search needs

@@ -21,9 +21,7 @@ unfolding upTo leastOver
 loop-holds c = (omega arith, refl)
 
 looked-at-requires : tie.Need-looked-at-requires Inv-loop μ-loop
-looked-at-requires c κs =
-    let p = c .before .before .before .before .pre in
-    (p .0, (p .1 .0, (p .1 .1, c .loop-test .taken)))
+looked-at-requires c κs = (c .before .before .before .before .pre, c .loop-test .taken)
 
 add-d : tie.Need-add-d Inv-loop μ-loop
 add-d c = omega arith

@@ -1,4 +1,4 @@
-use Rattle.entries.proofs.FoundLaws.{small-rhs, entering, held-rhs, became-anew, found-small}
+use Rattle.entries.proofs.FoundLaws.{findable, entering, ready-set, became-anew, found-small}
 use borrow.Author.Needs.{needs}
 use Rattle.entries.proofs.found_anew.Statement.{statement}
 use Rattle.entries.proofs.found_anew.Tie as tie
@@ -17,7 +17,7 @@ abbrev after-anew : tie.After-slice-known10 → tie.After-anew
 after-anew c = after-anew-for-set-right (after-set-right c .before)
 
 anew-requires : tie.Need-anew-requires
-anew-requires c κs = search needs
+anew-requires c κs = let p = c .before .before .before .before .before .before .before .before .pre in findable (p .ready) (p .inside)
 
 mul-rhs : tie.Need-mul-rhs
 mul-rhs c = search needs
@@ -31,14 +31,7 @@ slice-write-parent c = search needs
 set-right-requires : tie.Need-set-right-requires
 set-right-requires c κs =
     let p = at-start (after-anew-for-set-right c) .pre in
-    let f = found-small _ _ (p .0) (p .1 .1 .0 .0) (after-anew-for-set-right c .anew .ensures) in
-    entering
-    (p .0)
-    (held-rhs _ _ 0 (p .1 .0))
-    (p .1 .1 .0 .0)
-    (small-rhs _ _ (p .1 .0) (p .1 .1 .1 .0) f (p .1 .1 .0 .1))
-    (p .1 .1 .1 .0)
-    (p .1 .1 .1 .1)
+    entering (ready-set _ 0 p (found-small _ (p .ready) (after-anew-for-set-right c .anew .ensures)))
 
 same-length : tie.Need-same-length
 same-length c = search needs
@@ -61,10 +54,9 @@ same-length-6 c = search needs
 returns : tie.Need-returns
 returns c =
     let p = at-start (after-anew c) .pre in
-    let f = found-small _ _ (p .0) (p .1 .1 .0 .0) (after-anew c .anew .ensures) in
     let e = after-set-right c .set-right .ensures in (
       became-anew _ _ _ _ _ _ _ (at-start (after-anew c) .args .list .now) (after-anew c .anew .ensures) (e .0),
-      (small-rhs _ _ (p .1 .0) (p .1 .1 .1 .0) f (p .1 .1 .0 .1), e .1),
+      (ready-set _ 0 p (found-small _ (p .ready) (after-anew c .anew .ensures)) .ready .small-rhs, e .1),
     )
 
 pub found-anew-spec : {M : Type 1} → statement M

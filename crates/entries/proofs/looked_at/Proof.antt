@@ -32,8 +32,8 @@ mul-far c =
     let p = at-start (c .before) .pre in
     omega (
       arith,
-      neighbour-in _ (p .0) _ _ (p .1 .1 .1) (said-to _ (c .before .reach .given .1) (c .before .before .before .move-into .ensures)),
-      area (p .0 .size),
+      neighbour-in _ (p .0 .obeys) _ _ (p .1) (said-to _ (c .before .reach .given .1) (c .before .before .before .move-into .ensures)),
+      area (p .0 .obeys .size),
     )
 
 shared-slice-read-far : tie.Need-shared-slice-read-far
@@ -41,8 +41,8 @@ shared-slice-read-far c =
     let p = at-start (c .before .before) .pre in
     omega (
       arith,
-      neighbour-in _ (p .0) _ _ (p .1 .1 .1) (said-to _ (c .before .before .reach .given .1) (c .before .before .before .before .move-into .ensures)),
-      p .1 .0 .0,
+      neighbour-in _ (p .0 .obeys) _ _ (p .1) (said-to _ (c .before .before .reach .given .1) (c .before .before .before .before .move-into .ensures)),
+      p .0 .long-g,
     )
 
 returns-2 : tie.Need-returns-2
@@ -59,8 +59,8 @@ add-sum c =
     let p = at-start (after-reach c) .pre in
     omega (
       arith,
-      neighbour-in _ (p .0) _ _ (p .1 .1 .1) (said-to _ (after-reach c .reach .given .1) (after-reach c .before .before .move-into .ensures)),
-      finite-small (at-start (after-reach c) .args .g .now) (p .1 .0 .1) (after-reach c .reach .given .0 .0) (c .if1 .left),
+      neighbour-in _ (p .0 .obeys) _ _ (p .1) (said-to _ (after-reach c .reach .given .1) (after-reach c .before .before .move-into .ensures)),
+      finite-small (at-start (after-reach c) .args .g .now) (p .0 .small-g) (after-reach c .reach .given .0 .0) (c .if1 .left),
     )
 
 returns-3 : tie.Need-returns-3

@@ -1,6 +1,6 @@
 use mathlib.Core.Path.{refl}
 use native.Mathlib.Omega.{arith}
-use Rattle.entries.proofs.EntryLaws.{cell-placed, goal-placed, key-room, heap-here, right-absent, right-out, right-in, kept-in, kept-out}
+use Rattle.entries.proofs.EntryLaws.{spots-placed, key-room, heap-here, right-absent, right-out, right-in, kept-in, kept-out}
 use borrow.Author.Needs.{needs}
 use Rattle.entries.proofs.set_right.Statement.{statement}
 use Rattle.entries.proofs.set_right.Tie as tie
@@ -69,7 +69,7 @@ returns c =
 take-out-requires : tie.Need-take-out-requires
 take-out-requires c κs =
     let E = at-start-from-then-1 (else-2-for-take-out c .before) .pre in
-    (heap-here E, (omega (arith, E .inside, E .heap .tables .agree .lengthList), else-2-for-take-out c .if2 .left))
+    (heap-here E, (omega (arith, E .sited .inside, E .heap .tables .agree .lengthList), else-2-for-take-out c .if2 .left))
 
 same-length : tie.Need-same-length
 same-length c = search needs
@@ -96,12 +96,12 @@ lesser-requires c κs = search needs
 first-key-requires : tie.Need-first-key-requires
 first-key-requires c κs =
     let E = at-start-from-lesser c .pre in
-    ((cell-placed E, goal-placed E .0, goal-placed E .1), key-room E (c .before .if1 .left) (c .lesser .ensures))
+    (spots-placed (E .sited), key-room (E .sited) (E .fits (c .before .if1 .left)) (c .lesser .ensures))
 
 put-in-requires : tie.Need-put-in-requires
 put-in-requires c κs =
     let E = at-start-from-lesser (then-3-for-put-in c .before .before) .pre in
-    (heap-here E, (omega (arith, E .inside, E .heap .tables .agree .lengthList), then-3-for-put-in c .if3 .taken))
+    (heap-here E, (omega (arith, E .sited .inside, E .heap .tables .agree .lengthList), then-3-for-put-in c .if3 .taken))
 
 same-length-5 : tie.Need-same-length-5
 same-length-5 c = search needs
@@ -127,7 +127,7 @@ returns-3 c =
 put-under-requires : tie.Need-put-under-requires
 put-under-requires c κs =
     let E = at-start-from-lesser (else-3 c .before .before) .pre in
-    (heap-here E, (omega (arith, E .inside, E .heap .tables .agree .lengthList), else-3 c .if3 .left))
+    (heap-here E, (omega (arith, E .sited .inside, E .heap .tables .agree .lengthList), else-3 c .if3 .left))
 
 same-length-9 : tie.Need-same-length-9
 same-length-9 c = search needs

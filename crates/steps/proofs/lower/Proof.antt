@@ -10,9 +10,9 @@ use Rattle.method.proofs.Stepping.{relaxedAll-sized}
 use Rattle.plan.specs.Grid.{outBy, upTo}
 use Rattle.plan.proofs.MoveLaws.{area}
 use Rattle.tables.specs.Lent.{tables, core}
-use Rattle.entries.specs.Aims.{floor, hunt, mostRhs, Held, Small}
+use Rattle.entries.specs.Aims.{floor, hunt, mostRhs, Ready}
 use Rattle.entries.proofs.FoundLaws.{entering}
-use Rattle.steps.proofs.StepLaws.{became-held, held-g, lower-finite, rhs-small, small-g, relaxed-first, relaxed-more, lower-is}
+use Rattle.steps.proofs.StepLaws.{ready-after, g-set, lower-finite, relaxed-first, relaxed-more, lower-is}
 use Rattle.steps.proofs.lower.Statement.{statement}
 use Rattle.steps.proofs.lower.Tie as tie
 
@@ -26,8 +26,7 @@ Inv-loop a plan g rhs₀ parent₀ k1₀ k2₀ place₀ list₀ count u at v n�
     v
     (core (tables plan g rhs₀ parent₀ k1₀ k2₀ place₀ list₀))
     (upTo (outBy (floor a plan) u) d))
-    × Held a n (tables plan g rhs parent k1 k2 place list)
-    × Small mostRhs rhs
+    × Ready a mostRhs n (tables plan g rhs parent k1 k2 place list)
 
 abbrev μ-loop : tie.MeasureT-loop
 μ-loop a plan g rhs₀ parent₀ k1₀ k2₀ place₀ list₀ count u at v n₀ d₀ rhs parent k1 k2 place list n d = 4 - d
@@ -64,51 +63,39 @@ abbrev in-loop : tie.After-slice-known18 Inv-loop μ-loop → tie.In-loop Inv-lo
 in-loop c = in-loop-for-relax (after-relax c .before)
 
 mul-v : tie.Need-mul-v Inv-loop μ-loop
-mul-v c = let p = at-start-for-mul-v c .pre in omega (arith, p .1 .1 .1 .0, area (p .0 .obeys .size))
+mul-v c = let p = at-start-for-mul-v c .pre .here in omega (arith, p .inside, area (p .ready .aimed .obeys .size))
 
 slice-read-v : tie.Need-slice-read-v Inv-loop μ-loop
-slice-read-v c = let p = at-start-for-slice-read-v c .pre in omega (arith, p .1 .1 .1 .0, p .1 .0 .sized .rhs)
+slice-read-v c = let p = at-start-for-slice-read-v c .pre .here in omega (arith, p .inside, p .ready .held .sized .rhs)
 
 mul-g : tie.Need-mul-g Inv-loop μ-loop
-mul-g c = let p = at-start-for-slice-read-v c .pre in omega (arith, p .1 .1 .1 .0, area (p .0 .obeys .size))
+mul-g c = let p = at-start-for-slice-read-v c .pre .here in omega (arith, p .inside, area (p .ready .aimed .obeys .size))
 
 slice-write-g : tie.Need-slice-write-g Inv-loop μ-loop
-slice-write-g c = let p = at-start-for-slice-read-v c .pre in omega (arith, p .1 .1 .1 .0, p .1 .0 .sized .g)
+slice-write-g c = let p = at-start-for-slice-read-v c .pre .here in omega (arith, p .inside, p .ready .held .sized .g)
 
 set-right-requires : tie.Need-set-right-requires Inv-loop μ-loop
 set-right-requires c κs =
     let p = at-start-for-set-right c .pre in
-    let v = lower-finite (at-start-for-set-right c .args .u) (p .1 .0) (p .1 .1 .0 .0) (p .1 .1 .0 .1) (p .1 .1 .1 .2) in
-    entering
-    (p .0)
-    (held-g _ _ (p .1 .0))
-    (small-g _ _ (p .1 .0) (p .1 .1 .1 .0) (inr v) (p .1 .1 .0 .0))
-    (rhs-small (p .1 .0) (p .1 .1 .0 .1))
-    (p .1 .1 .1 .0)
-    (p .1 .1 .1 .1)
+    entering (g-set _ (p .here) (inr (lower-finite p)))
 
 loop-holds : tie.Need-loop-holds Inv-loop μ-loop
 loop-holds c =
-    let p = at-start-for-loop-holds c .pre in (
+    let p = at-start-for-loop-holds c .pre in
+    let R = g-set _ (p .here) (inr (lower-finite p)) .ready in (
       omega arith,
       relaxed-first _ _ _ _,
-      became-held (setRight-sized (held-g _ _ (p .1 .0) .sized) _ _) (after-set-right-for-loop-holds c .set-right .ensures .0 _ _),
-      rhs-small (p .1 .0) (p .1 .1 .0 .1),
+      ready-after R (setRight-sized (R .held .sized) _ _) (after-set-right-for-loop-holds c .set-right .ensures .0 _ _) (R .small-rhs),
     )
 
 relax-requires : tie.Need-relax-requires Inv-loop μ-loop
 relax-requires c κs =
-    let p = at-start-from-loop (in-loop-for-relax c .before) .pre in
-    let i = in-loop-for-relax c .before .loop .inv in
-    let v = lower-finite (at-start-from-loop (in-loop-for-relax c .before) .args .u) (p .1 .0) (p .1 .1 .0 .0) (p .1 .1 .0 .1) (p .1 .1 .1 .2) in (
-      p .0,
-      (
-        i .2,
-        (
-          (small-g _ _ (p .1 .0) (p .1 .1 .1 .0) (inr v) (p .1 .1 .0 .0), i .3),
-          (p .1 .1 .1 .0, p .1 .1 .1 .1, in-loop-for-relax c .loop-test .taken, v),
-        ),
-      ),
+    let p = at-start-from-loop (in-loop-for-relax c .before) .pre in (
+      record {
+        here = record { ready = in-loop-for-relax c .before .loop .inv .2; inside = p .here .inside; stands = p .here .stands };
+        direction = in-loop-for-relax c .loop-test .taken;
+      },
+      lower-finite p,
     )
 
 add-d : tie.Need-add-d Inv-loop μ-loop
@@ -123,44 +110,43 @@ loop-again c =
     let e = after-relax c .relax .ensures in (
       omega (arith, in-loop c .loop-test .taken),
       relaxed-more _ _ _ _ _ (i .1) (e .0 .is),
-      became-held (relaxedAll-sized (i .2 .sized) _ _ _) (e .0),
-      e .1 .0,
+      ready-after (i .2) (relaxedAll-sized (i .2 .held .sized) _ _ _) (e .0) (e .1),
     )
 
 same-length : tie.Need-same-length Inv-loop μ-loop
 same-length c = search needs
 
 same-length-2 : tie.Need-same-length-2 Inv-loop μ-loop
-same-length-2 c = c .before .loop .inv .2 .sized .rhs ∙ sym (at-start-from-loop (c .before) .pre .1 .0 .sized .rhs)
+same-length-2 c = c .before .loop .inv .2 .held .sized .rhs ∙ sym (at-start-from-loop (c .before) .pre .here .ready .held .sized .rhs)
 
 same-length-3 : tie.Need-same-length-3 Inv-loop μ-loop
-same-length-3 c = c .before .loop .inv .2 .sized .parent ∙ sym (at-start-from-loop (c .before) .pre .1 .0 .sized .parent)
+same-length-3 c = c .before .loop .inv .2 .held .sized .parent ∙ sym (at-start-from-loop (c .before) .pre .here .ready .held .sized .parent)
 
 same-length-4 : tie.Need-same-length-4 Inv-loop μ-loop
-same-length-4 c = c .before .loop .inv .2 .sized .k1 ∙ sym (at-start-from-loop (c .before) .pre .1 .0 .sized .k1)
+same-length-4 c = c .before .loop .inv .2 .held .sized .k1 ∙ sym (at-start-from-loop (c .before) .pre .here .ready .held .sized .k1)
 
 same-length-5 : tie.Need-same-length-5 Inv-loop μ-loop
-same-length-5 c = c .before .loop .inv .2 .sized .k2 ∙ sym (at-start-from-loop (c .before) .pre .1 .0 .sized .k2)
+same-length-5 c = c .before .loop .inv .2 .held .sized .k2 ∙ sym (at-start-from-loop (c .before) .pre .here .ready .held .sized .k2)
 
 same-length-6 : tie.Need-same-length-6 Inv-loop μ-loop
 same-length-6 c =
-    c .before .loop .inv .2 .heap .tables .agree .lengthPlace ∙ sym (at-start-from-loop (c .before) .pre .1 .0 .heap .tables .agree .lengthPlace)
+    c .before .loop .inv .2 .held .heap .tables .agree .lengthPlace ∙ sym (at-start-from-loop (c .before) .pre .here .ready .held .heap .tables .agree .lengthPlace)
 
 same-length-7 : tie.Need-same-length-7 Inv-loop μ-loop
 same-length-7 c =
-    c .before .loop .inv .2 .heap .tables .agree .lengthList ∙ sym (at-start-from-loop (c .before) .pre .1 .0 .heap .tables .agree .lengthList)
+    c .before .loop .inv .2 .held .heap .tables .agree .lengthList ∙ sym (at-start-from-loop (c .before) .pre .here .ready .held .heap .tables .agree .lengthList)
 
 returns : tie.Need-returns Inv-loop μ-loop
 returns c =
-    let p = at-start-from-loop (c .before) .pre in
+    let p = at-start-from-loop (c .before) .pre .here in
     let i = c .before .loop .inv in
     lower-is _ _ _ _ _ _ _ _ _
     (at-start-from-loop (c .before) .args .list .now)
-    (omega (arith, p .1 .0 .sized .g, p .1 .1 .1 .0))
+    (omega (arith, p .ready .held .sized .g, p .inside))
     (omega (arith, i .0, c .loop-test .left))
     (after-set-right-from-loop c .set-right .ensures .0 _ _ .is)
     (i .1)
-    (i .2)
+    (i .2 .held)
 
 pub lower-spec : {M : Type 1} → statement M
 lower-spec =

@@ -9,9 +9,9 @@ use Rattle.method.proofs.Stepping.{renewedAll-sized}
 use Rattle.plan.specs.Grid.{outBy, upTo}
 use Rattle.plan.proofs.MoveLaws.{area}
 use Rattle.tables.specs.Lent.{tables, core}
-use Rattle.entries.specs.Aims.{floor, hunt, mostRhs, Held, Small}
+use Rattle.entries.specs.Aims.{floor, hunt, mostRhs, Ready}
 use Rattle.entries.proofs.FoundLaws.{entering}
-use Rattle.steps.proofs.StepLaws.{became-held, held-g, rhs-small, small-g, renewed-first, renewed-more, raise-is}
+use Rattle.steps.proofs.StepLaws.{ready-after, g-set, renewed-first, renewed-more, raise-is}
 use Rattle.steps.proofs.raise.Statement.{statement}
 use Rattle.steps.proofs.raise.Tie as tie
 
@@ -24,8 +24,7 @@ Inv-loop a plan g rhs₀ parent₀ k1₀ k2₀ place₀ list₀ count u at n₀ 
     (hunt a plan)
     (core (tables plan g rhs₀ parent₀ k1₀ k2₀ place₀ list₀))
     (upTo (outBy (floor a plan) u) d))
-    × Held a n (tables plan g rhs parent k1 k2 place list)
-    × Small mostRhs rhs
+    × Ready a mostRhs n (tables plan g rhs parent k1 k2 place list)
 
 abbrev μ-loop : tie.MeasureT-loop
 μ-loop a plan g rhs₀ parent₀ k1₀ k2₀ place₀ list₀ count u at n₀ d₀ rhs parent k1 k2 place list n d = 4 - d
@@ -62,29 +61,21 @@ abbrev in-loop-for-loop-again : tie.After-slice-known13 Inv-loop μ-loop → tie
 in-loop-for-loop-again c = in-loop-for-renew (after-renew c .before)
 
 mul-g : tie.Need-mul-g Inv-loop μ-loop
-mul-g c = let p = at-start-for-mul-g c .pre in omega (arith, p .1 .1 .1 .0, area (p .0 .obeys .size))
+mul-g c = let p = at-start-for-mul-g c .pre in omega (arith, p .inside, area (p .ready .aimed .obeys .size))
 
 slice-write-g : tie.Need-slice-write-g Inv-loop μ-loop
-slice-write-g c = let p = at-start-for-mul-g c .pre in omega (arith, p .1 .1 .1 .0, p .1 .0 .sized .g)
+slice-write-g c = let p = at-start-for-mul-g c .pre in omega (arith, p .inside, p .ready .held .sized .g)
 
 loop-holds : tie.Need-loop-holds Inv-loop μ-loop
-loop-holds c =
-    let p = at-start-for-mul-g c .pre in
-    (omega arith, renewed-first _ _ _, held-g _ _ (p .1 .0), rhs-small (p .1 .0) (p .1 .1 .0 .1))
+loop-holds c = (omega arith, renewed-first _ _ _, g-set _ (at-start-for-mul-g c .pre) (inl refl) .ready)
 
 renew-requires : tie.Need-renew-requires Inv-loop μ-loop
 renew-requires c κs =
     let p = at-start-from-loop (in-loop-for-renew c .before) .pre in
-    let i = in-loop-for-renew c .before .loop .inv in (
-      p .0,
-      (
-        i .2,
-        (
-          (small-g _ _ (p .1 .0) (p .1 .1 .1 .0) (inl refl) (p .1 .1 .0 .0), i .3),
-          (p .1 .1 .1 .0, p .1 .1 .1 .1, in-loop-for-renew c .loop-test .taken),
-        ),
-      ),
-    )
+    record {
+      here = record { ready = in-loop-for-renew c .before .loop .inv .2; inside = p .inside; stands = p .stands };
+      direction = in-loop-for-renew c .loop-test .taken;
+    }
 
 add-d : tie.Need-add-d Inv-loop μ-loop
 add-d c = omega (arith, in-loop-for-loop-again c .loop-test .taken)
@@ -98,44 +89,42 @@ loop-again c =
     let e = after-renew c .renew .ensures in (
       omega (arith, in-loop-for-loop-again c .loop-test .taken),
       renewed-more _ _ _ _ (i .1) (e .0 .is),
-      became-held (renewedAll-sized (i .2 .sized) _ _) (e .0),
-      e .1 .0,
+      ready-after (i .2) (renewedAll-sized (i .2 .held .sized) _ _) (e .0) (e .1),
     )
 
 set-right-requires : tie.Need-set-right-requires Inv-loop μ-loop
 set-right-requires c κs =
     let p = at-start-from-loop (at-loop c) .pre in
-    let i = at-loop c .loop .inv in
-    entering (p .0) (i .2) (small-g _ _ (p .1 .0) (p .1 .1 .1 .0) (inl refl) (p .1 .1 .0 .0)) (i .3) (p .1 .1 .1 .0) (p .1 .1 .1 .1)
+    entering (record { ready = at-loop c .loop .inv .2; inside = p .inside; stands = p .stands })
 
 same-length : tie.Need-same-length Inv-loop μ-loop
 same-length c = search needs
 
 same-length-2 : tie.Need-same-length-2 Inv-loop μ-loop
-same-length-2 c = after-loop c .before .loop .inv .2 .sized .rhs ∙ sym (at-start c .pre .1 .0 .sized .rhs)
+same-length-2 c = after-loop c .before .loop .inv .2 .held .sized .rhs ∙ sym (at-start c .pre .ready .held .sized .rhs)
 
 same-length-3 : tie.Need-same-length-3 Inv-loop μ-loop
-same-length-3 c = after-loop c .before .loop .inv .2 .sized .parent ∙ sym (at-start c .pre .1 .0 .sized .parent)
+same-length-3 c = after-loop c .before .loop .inv .2 .held .sized .parent ∙ sym (at-start c .pre .ready .held .sized .parent)
 
 same-length-4 : tie.Need-same-length-4 Inv-loop μ-loop
 same-length-4 c =
     let e = after-set-right c .set-right .ensures .0 (at-start c .args .plan .now) (after-loop c .before .loop .parent) in
-    e .heap .tables .length1 ∙ sym (at-start c .pre .1 .0 .sized .k1)
+    e .heap .tables .length1 ∙ sym (at-start c .pre .ready .held .sized .k1)
 
 same-length-5 : tie.Need-same-length-5 Inv-loop μ-loop
 same-length-5 c =
     let e = after-set-right c .set-right .ensures .0 (at-start c .args .plan .now) (after-loop c .before .loop .parent) in
-    e .heap .tables .length2 ∙ sym (at-start c .pre .1 .0 .sized .k2)
+    e .heap .tables .length2 ∙ sym (at-start c .pre .ready .held .sized .k2)
 
 same-length-6 : tie.Need-same-length-6 Inv-loop μ-loop
 same-length-6 c =
     let e = after-set-right c .set-right .ensures .0 (at-start c .args .plan .now) (after-loop c .before .loop .parent) in
-    e .heap .tables .agree .lengthPlace ∙ sym (at-start c .pre .1 .0 .heap .tables .agree .lengthPlace)
+    e .heap .tables .agree .lengthPlace ∙ sym (at-start c .pre .ready .held .heap .tables .agree .lengthPlace)
 
 same-length-7 : tie.Need-same-length-7 Inv-loop μ-loop
 same-length-7 c =
     let e = after-set-right c .set-right .ensures .0 (at-start c .args .plan .now) (after-loop c .before .loop .parent) in
-    e .heap .tables .agree .lengthList ∙ sym (at-start c .pre .1 .0 .heap .tables .agree .lengthList)
+    e .heap .tables .agree .lengthList ∙ sym (at-start c .pre .ready .held .heap .tables .agree .lengthList)
 
 returns : tie.Need-returns Inv-loop μ-loop
 returns c =

@@ -1,8 +1,8 @@
 use mathlib.Core.Path.{refl, sym}
 use native.Mathlib.Omega.{arith}
 use Rattle.plan.proofs.MoveLaws.{area}
-use Rattle.entries.proofs.FoundLaws.{entering, held-rhs, small-rhs}
-use Rattle.steps.proofs.StepLaws.{became-as, became-same, asked-nothing, asked-to, move-asks, entered-at, sum-small}
+use Rattle.entries.proofs.FoundLaws.{entering, ready-set}
+use Rattle.steps.proofs.StepLaws.{became-as, became-same, asked-nothing, asked-to, move-asks, entered-ready, sum-small}
 use borrow.Author.Needs.{needs}
 use Rattle.steps.proofs.relax.Statement.{statement}
 use Rattle.steps.proofs.relax.Tie as tie
@@ -38,15 +38,15 @@ same-length c = search needs
 returns : tie.Need-returns
 returns c =
     let p = at-start-from-relaxation (c .before .before) .pre in (
-      became-same (p .1 .0) (asked-nothing _ _ _ _ _ _ (c .enum-told .given .1) (c .before .before .relaxation .ensures) _ refl),
-      (p .1 .1 .0 .1, λ _ _ _. (refl, refl, refl)),
+      became-same (p .0 .here .ready .held) (asked-nothing _ _ _ _ _ _ (c .enum-told .given .1) (c .before .before .relaxation .ensures) _ refl),
+      p .0 .here .ready .small-rhs,
     )
 
 moved-requires : tie.Need-moved-requires
 moved-requires c κs =
     let p = at-start-from-relaxation (c .before .before .before) .pre in
     let r = asked-to _ _ _ _ _ _ (c .before .asked .given .1) (c .before .before .before .relaxation .ensures) in
-    move-asks (p .0) (r .enters) (p .1 .1 .1 .1) (p .1 .1 .1 .2)
+    move-asks (p .0) (r .enters)
 
 mul-rhs : tie.Need-mul-rhs
 mul-rhs c =
@@ -54,7 +54,7 @@ mul-rhs c =
     omega (
       arith,
       asked-to _ _ _ _ _ _ (c .before .before .asked .given .1) (c .before .before .before .before .relaxation .ensures) .enters .inside,
-      area (p .0 .obeys .size),
+      area (p .0 .here .ready .aimed .obeys .size),
     )
 
 slice-write-rhs : tie.Need-slice-write-rhs
@@ -63,7 +63,7 @@ slice-write-rhs c =
     omega (
       arith,
       asked-to _ _ _ _ _ _ (c .before .before .asked .given .1) (c .before .before .before .before .relaxation .ensures) .enters .inside,
-      p .1 .0 .sized .rhs,
+      p .0 .here .ready .held .sized .rhs,
     )
 
 add-parent : tie.Need-add-parent
@@ -81,7 +81,7 @@ slice-write-parent c =
     omega (
       arith,
       asked-to _ _ _ _ _ _ (c .before .before .asked .given .1) (c .before .before .before .before .relaxation .ensures) .enters .inside,
-      p .1 .0 .sized .parent,
+      p .0 .here .ready .held .sized .parent,
     )
 
 set-right-requires : tie.Need-set-right-requires
@@ -90,13 +90,7 @@ set-right-requires c κs =
     let r = asked-to _ _ _ _ _ _
     (after-moved c .before .before .asked .given .1)
     (after-moved c .before .before .before .before .relaxation .ensures) in
-    entering
-    (p .0)
-    (held-rhs _ _ 0 (p .1 .0))
-    (p .1 .1 .0 .0)
-    (small-rhs _ _ (p .1 .0) (r .enters .inside) (sum-small (r .sum-le) (p .1 .1 .1 .3)) (p .1 .1 .0 .1))
-    (r .enters .inside)
-    (entered-at (p .0) (r .enters) (p .1 .1 .1 .1) (after-moved c .moved .ensures))
+    entering (ready-set _ 0 (entered-ready (p .0) (r .enters) (after-moved c .moved .ensures)) (sum-small (r .sum-le) (p .1)))
 
 same-length-2 : tie.Need-same-length-2
 same-length-2 c = search needs
@@ -122,7 +116,7 @@ returns-2 c =
     let r = asked-to _ _ _ _ _ _ (after-asked c .asked .given .1) (after-asked c .before .before .relaxation .ensures) in
     let e = after-set-right c .set-right .ensures in (
       became-as (e .0 _ _) (sym (r .is _ refl)),
-      (small-rhs _ _ (p .1 .0) (r .enters .inside) (sum-small (r .sum-le) (p .1 .1 .1 .3)) (p .1 .1 .0 .1), e .1),
+      ready-set _ 0 (entered-ready (p .0) (r .enters) (after-moved (after-set-right c .before) .moved .ensures)) (sum-small (r .sum-le) (p .1)) .ready .small-rhs,
     )
 
 pub relax-spec : {M : Type 1} → statement M

@@ -1,5 +1,5 @@
 use mathlib.Core.Path.{refl, sym}
-use Rattle.steps.proofs.StepLaws.{became-as, became-same, asked-not, asked-is, move-asks, entered-at}
+use Rattle.steps.proofs.StepLaws.{became-as, became-same, asked-not, asked-is, move-asks, entered-ready}
 use borrow.Author.Needs.{needs}
 use Rattle.steps.proofs.renew.Statement.{statement}
 use Rattle.steps.proofs.renew.Tie as tie
@@ -32,21 +32,21 @@ same-length c = search needs
 returns : tie.Need-returns
 returns c =
     let p = at-start (c .before .before) .pre in (
-      became-same (p .1 .0) (asked-not _ _ _ _ _ (c .enum-told .given .1) (c .before .before .child-by .ensures) _ refl),
-      (p .1 .1 .0 .1, λ _ _ _. (refl, refl, refl)),
+      became-same (p .here .ready .held) (asked-not _ _ _ _ _ (c .enum-told .given .1) (c .before .before .child-by .ensures) _ refl),
+      p .here .ready .small-rhs,
     )
 
 moved-requires : tie.Need-moved-requires
 moved-requires c κs =
     let p = at-start (c .before .before .before) .pre in
     let r = asked-is _ _ _ _ _ (c .before .asked .given .1) (c .before .before .before .child-by .ensures) in
-    move-asks (p .0) (r .enters) (p .1 .1 .1 .1) (p .1 .1 .1 .2)
+    move-asks p (r .enters)
 
 found-anew-requires : tie.Need-found-anew-requires
 found-anew-requires c κs =
     let p = at-start (after-moved c .before .before .before .before) .pre in
     let r = asked-is _ _ _ _ _ (after-moved c .before .before .asked .given .1) (after-moved c .before .before .before .before .child-by .ensures) in
-    (p .0, (p .1 .0, (p .1 .1 .0, (r .enters .inside, entered-at (p .0) (r .enters) (p .1 .1 .1 .1) (after-moved c .moved .ensures)))))
+    entered-ready p (r .enters) (after-moved c .moved .ensures)
 
 same-length-2 : tie.Need-same-length-2
 same-length-2 c = search needs
@@ -70,7 +70,7 @@ returns-2 : tie.Need-returns-2
 returns-2 c =
     let r = asked-is _ _ _ _ _ (after-asked c .asked .given .1) (after-asked c .before .before .child-by .ensures) in
     let e = after-found-anew c .found-anew .ensures in
-    (became-as (e .0) (sym (r .is _ refl)), e .1)
+    (became-as (e .0) (sym (r .is _ refl)), e .1 .0)
 
 pub renew-spec : {M : Type 1} → statement M
 renew-spec =

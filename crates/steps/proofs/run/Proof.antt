@@ -5,7 +5,7 @@ use Prim.Native.Nat.{_-_}
 use native.Mathlib.Omega.{arith}
 use Rattle.plan.proofs.MoveLaws.{area}
 use Rattle.tables.specs.Lent.{tables}
-use Rattle.steps.proofs.LoopLaws.{Going, going-first, g-small, rhs-small, choosing, taken-in, going-more, finished-done, finished-cut}
+use Rattle.steps.proofs.LoopLaws.{Going, going-first, choosing, stepping, going-more, finished-done, finished-cut}
 use Rattle.steps.proofs.run.Statement.{statement}
 use Rattle.steps.proofs.run.Tie as tie
 
@@ -109,14 +109,11 @@ returns c = finished-done (at-loop c .loop .inv) (c .enum-told .given .1) (c .be
 
 step-requires : tie.Need-step-requires Inv-loop μ-loop
 step-requires c κs =
-    let A = at-start-from-loop (at-loop-for-step c) .pre .0 in
-    let G = at-loop-for-step c .loop .inv in (
-      A,
-      (
-        G .held,
-        ((g-small A G, rhs-small A G), taken-in A G (after-next-for-step c .next .given .1) (after-next-for-step c .before .before .chosen .ensures)),
-      ),
-    )
+    stepping
+    (at-start-from-loop (at-loop-for-step c) .pre .0)
+    (at-loop-for-step c .loop .inv)
+    (after-next-for-step c .next .given .1)
+    (after-next-for-step c .before .before .chosen .ensures)
 
 add-steps : tie.Need-add-steps Inv-loop μ-loop
 add-steps c =

@@ -1,8 +1,7 @@
 use borrow.Author.Needs.{needs}
 use native.Mathlib.Omega.{arith}
 use Rattle.plan.proofs.MoveLaws.{area}
-use Rattle.entries.proofs.FoundLaws.{entering}
-use Rattle.steps.proofs.StepLaws.{became-as, rhs-small, keyed, put-back-is, lowered-is, raised-is}
+use Rattle.steps.proofs.StepLaws.{became-as, step-here, step-entering, keyed, put-back-is, lowered-is, raised-is}
 use Rattle.steps.proofs.step.Statement.{statement}
 use Rattle.steps.proofs.step.Tie as tie
 
@@ -62,23 +61,14 @@ abbrev at-start-for-returns-3 : tie.After-slice-known27 → tie.Start
 at-start-for-returns-3 c = at-start-from-stale (after-stale-for-raise (after-raise c .before))
 
 spot-of-requires : tie.Need-spot-of-requires
-spot-of-requires c κs = at-start-for-spot-of c .pre .0 .obeys .size .wide
+spot-of-requires c κs = at-start-for-spot-of c .pre .ready .aimed .obeys .size .wide
 
 stale-requires : tie.Need-stale-requires
-stale-requires c κs =
-    let p = at-start-for-stale c .pre in
-    keyed (p .0) (p .1 .0) (p .1 .1 .0 .0) (p .1 .1 .0 .1) (p .1 .1 .1 .0) (c .before .before .before .before .spot-of .ensures) (p .1 .1 .1 .1)
+stale-requires c κs = keyed (at-start-for-stale c .pre) (c .before .before .before .before .spot-of .ensures)
 
 set-right-requires : tie.Need-set-right-requires
 set-right-requires c κs =
-    let p = at-start-from-stale (after-stale-for-set-right c) .pre in
-    entering
-    (p .0)
-    (p .1 .0)
-    (p .1 .1 .0 .0)
-    (rhs-small (p .1 .0) (p .1 .1 .0 .1))
-    (p .1 .1 .1 .0)
-    (after-spot-of (after-stale-for-set-right c) .spot-of .ensures)
+    step-entering (at-start-from-stale (after-stale-for-set-right c) .pre) (after-spot-of (after-stale-for-set-right c) .spot-of .ensures)
 
 same-length : tie.Need-same-length
 same-length c = search needs
@@ -100,38 +90,29 @@ same-length-6 c = search needs
 
 returns : tie.Need-returns
 returns c =
-    let p = at-start c .pre in
     became-as
     (after-set-right c .set-right .ensures .0 _ _)
     (put-back-is _ _ _
     (then-1 c .before .stale .ensures _ (at-start c .args .parent .now) (at-start c .args .place .now) (at-start c .args .list .now))
     (then-1 c .if1 .taken)
-    (p .1 .1 .1 .1))
+    (at-start c .pre .differ))
 
 mul-if2 : tie.Need-mul-if2
-mul-if2 c = let p = at-start-from-stale (c .before) .pre in omega (arith, p .1 .1 .1 .0, area (p .0 .obeys .size))
+mul-if2 c = let p = at-start-from-stale (c .before) .pre in omega (arith, p .inside, area (p .ready .aimed .obeys .size))
 
 slice-read-if2 : tie.Need-slice-read-if2
-slice-read-if2 c = let p = at-start-from-stale (c .before .before) .pre in omega (arith, p .1 .1 .1 .0, p .1 .0 .sized .rhs)
+slice-read-if2 c = let p = at-start-from-stale (c .before .before) .pre in omega (arith, p .inside, p .ready .held .sized .rhs)
 
 mul-if2-2 : tie.Need-mul-if2-2
-mul-if2-2 c = let p = at-start-from-stale (c .before .before) .pre in omega (arith, p .1 .1 .1 .0, area (p .0 .obeys .size))
+mul-if2-2 c = let p = at-start-from-stale (c .before .before) .pre in omega (arith, p .inside, area (p .ready .aimed .obeys .size))
 
 slice-read-if2-2 : tie.Need-slice-read-if2-2
-slice-read-if2-2 c = let p = at-start-from-stale (c .before .before .before) .pre in omega (arith, p .1 .1 .1 .0, p .1 .0 .sized .g)
+slice-read-if2-2 c = let p = at-start-from-stale (c .before .before .before) .pre in omega (arith, p .inside, p .ready .held .sized .g)
 
 lower-requires : tie.Need-lower-requires
 lower-requires c κs =
-    let p = at-start-from-stale (then-2-for-lower c .before .before .before .before) .pre in (
-      p .0,
-      (
-        p .1 .0,
-        (
-          p .1 .1 .0,
-          (p .1 .1 .1 .0, after-spot-of (then-2-for-lower c .before .before .before .before) .spot-of .ensures, then-2-for-lower c .if2 .taken),
-        ),
-      ),
-    )
+    let s = then-2-for-lower c .before .before .before .before in
+    record { here = step-here (at-start-from-stale s .pre) (after-spot-of s .spot-of .ensures); over = then-2-for-lower c .if2 .taken }
 
 same-length-7 : tie.Need-same-length-7
 same-length-7 c = search needs
@@ -168,8 +149,8 @@ returns-2 c =
 
 raise-requires : tie.Need-raise-requires
 raise-requires c κs =
-    let p = at-start-from-stale (after-stale-for-raise c) .pre in
-    (p .0, (p .1 .0, (p .1 .1 .0, (p .1 .1 .1 .0, after-spot-of (after-stale-for-raise c) .spot-of .ensures))))
+    let s = after-stale-for-raise c in
+    step-here (at-start-from-stale s .pre) (after-spot-of s .spot-of .ensures)
 
 same-length-14 : tie.Need-same-length-14
 same-length-14 c = search needs

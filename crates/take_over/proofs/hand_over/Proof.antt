@@ -1,5 +1,5 @@
 -- The new hunter's parent is cleared and the old hunter found anew: what `found_anew` promises of the tables so changed (TakeOverLaws).
-use Rattle.take_over.proofs.TakeOverLaws.{hand-aimed, hand-held, hand-cell, hand-holds, hand-long}
+use Rattle.take_over.proofs.TakeOverLaws.{hand-ready, hand-holds, hand-long}
 use borrow.Author.Needs.{needs}
 use Rattle.take_over.proofs.hand_over.Statement.{statement}
 use Rattle.take_over.proofs.hand_over.Tie as tie
@@ -28,9 +28,7 @@ spot-of-requires c κs = search needs
 
 found-anew-requires : tie.Need-found-anew-requires
 found-anew-requires c κs =
-    let R = at-start (after-spot-of c .before) .pre in
-    let O = after-spot-of c .before .aim-of .ensures in
-    (hand-aimed R O, (hand-held R O, ((R .small-g, R .small-rhs), hand-cell R O (after-spot-of c .spot-of .ensures))))
+    hand-ready (at-start (after-spot-of c .before) .pre) (after-spot-of c .before .aim-of .ensures) (after-spot-of c .spot-of .ensures)
 
 same-length : tie.Need-same-length
 same-length c = search needs
