@@ -1,3 +1,4 @@
 pub mod RefusalLaws
 pub mod EffectLaws
+pub mod WorkLaws
 pub mod Theorems

@@ -15,7 +15,7 @@ use Rattle.plan.proofs.ChangeLaws.{changed-obeys, changed-altered}
 use Rattle.tables.specs.declared.Session.{Session}
 use Rattle.tables.specs.Lent.{Tables, cells, floor, graph, session, core, Fits}
 use Rattle.tables.specs.Sound.{Sound}
-use Rattle.choices.specs.Effects.{Touches}
+use Rattle.change.specs.Effects.{Touches}
 use Rattle.session.specs.declared.Answer.the-variants.{Done}
 use Rattle.session.specs.declared.Reply.{Reply}
 use Rattle.session.specs.Promises.{Alike}

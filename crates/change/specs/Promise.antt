@@ -12,7 +12,7 @@ use Rattle.plan.specs.Costs.{byte, withByte}
 use Rattle.tables.specs.declared.Session.{Session}
 use Rattle.tables.specs.Lent.{Tables, tables, cells, floor, graph, session, core}
 use Rattle.tables.specs.Told.{toldNumber}
-use Rattle.choices.specs.Effects.{Touches}
+use Rattle.change.specs.Effects.{Touches}
 use Rattle.session.specs.declared.Reply.{Reply}
 use Rattle.session.specs.Refusals.{toldBy}
 use Rattle.change.specs.Refusals.{ChangeRules}

@@ -1,13 +1,15 @@
-// The public call that changes a move, and the same without the check for tables known to be sound.
-use choices;
+// The public call that changes a move, the same without the check for tables known to be sound, and what a changed move asks of the cell that it enters.
 use entries;
 use plan;
 use session;
 use tables;
+ghost use mathlib.Core.Path.{_≡_};
+ghost use Prim.Native.Nat.{_+_};
 ghost use Rattle.plan.specs.Cells.{Size};
 ghost use Rattle.tables.specs.Lent.{given, before, after};
 ghost use Rattle.tables.specs.Sound.{Sound};
 ghost use Rattle.change.specs.Refusals.{MoveRules, Workable};
+ghost use Rattle.change.specs.Effects.{Deciding, Asked};
 ghost use Rattle.change.specs.Promise.{WorkedIn, Changes};
 
 // The number of the first rule that a move's new cost breaks, 0 if none.
@@ -29,6 +31,58 @@ fn move_refusal(s: tables::Session, u: usize, d: usize, cost: u8) -> u8
         return 5;
     }
     0
+}
+
+// What a changed move asks of the cell that it enters: to keep its rhs and parent, or to take these.
+pub enum Effect {
+    Keeps,
+    To(u32, u8),
+}
+
+// A number and a cost, in 64 bits.
+fn sum_of(far: u32, cost: u8) -> usize
+    ensures { λ r. ⌜ r ≡ far + cost ⌝ }
+{
+    far as usize + cost as usize
+}
+
+// What a changed move asks of the cell v that it enters, where it has parent code k. The plan has the new cost.
+pub fn effect_of(
+    s: tables::Session,
+    plan: &[u8],
+    g: &[u32],
+    rhs: &[u32],
+    parent: &[u8],
+    v: usize,
+    k: u8,
+    u: usize,
+    old: u8,
+    new: u8,
+) -> Effect
+    requires { ⌜ Deciding s (now plan) (now g) (now rhs) (now parent) v u ⌝ }
+    ensures { λ r. ⌜ Asked s (now (plan .entry)) (now (g .entry)) (now (rhs .entry)) (now (parent .entry)) v k u old new r ⌝ }
+{
+    let far = g[u];
+    let y = rhs[v];
+    let p = parent[v];
+    if v == s.origin {
+        return Effect::Keeps;
+    }
+    if new < old {
+        let sum = sum_of(far, new);
+        if sum < y as usize {
+            return Effect::To(sum as u32, k);
+        }
+        return Effect::Keeps;
+    }
+    if new == old {
+        return Effect::Keeps;
+    }
+    if p != k {
+        return Effect::Keeps;
+    }
+    let f = entries::anew(s.width, s.height, plan, g, v);
+    Effect::To(f.rhs, f.parent)
 }
 
 // Gives the move from cell u in direction d its new cost, and works it in at the cell entered. Returns the queue's count.
@@ -54,8 +108,8 @@ fn work_in(
     let i = 4 * u + d;
     let old = plan[i];
     plan[i] = cost;
-    let effect = choices::effect_of(s, plan, g, rhs, parent, v, k, u, old, cost);
-    let choices::Effect::To(sum, code) = effect else {
+    let effect = effect_of(s, plan, g, rhs, parent, v, k, u, old, cost);
+    let Effect::To(sum, code) = effect else {
         return s.count;
     };
     rhs[v] = sum;

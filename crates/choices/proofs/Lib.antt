@@ -1,4 +1,3 @@
 pub mod AskLaws
 pub mod KeyLaws
 pub mod ChoiceLaws
-pub mod EffectLaws

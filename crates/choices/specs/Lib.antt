@@ -1,4 +1,3 @@
--- What one move does in a step (Moves), the next cell (Next), and what a changed move asks (Effects): choices that read the tables and write nothing.
+-- What one move does in a step (Moves), and the next cell (Next): choices that read the tables and write nothing.
 pub mod Moves
 pub mod Next
-pub mod Effects

@@ -1,4 +1,4 @@
-// What a step of a search and a changed move choose, reading the tables and writing nothing: the next cell, whether it is put back, what each of its open moves does, and what a changed move asks of the cell that it enters.
+// What a step of a search chooses, reading the tables and writing nothing: the next cell, whether it is put back, and what each of its open moves does.
 use entries;
 use entries::Aim;
 use plan;
@@ -6,7 +6,6 @@ use plan::Reach;
 use plan::Spot;
 use queue;
 use tables;
-use tables::Session;
 ghost use mathlib.Core.Path.{_≡_};
 ghost use Prim.Native.Nat.{_+_, _<_, _≤_};
 ghost use lib.Dec.{ltb};
@@ -16,7 +15,6 @@ ghost use Rattle.tables.specs.Lent.{tables, core};
 ghost use Rattle.entries.specs.Aims.{area, hunt, mostG, Aimed};
 ghost use Rattle.choices.specs.Moves.{Relaxes, Renews, Numbers, Keyed};
 ghost use Rattle.choices.specs.Next.{Goal, Choosing, Chosen};
-ghost use Rattle.choices.specs.Effects.{Deciding, Asked};
 
 // What an open move from u does in "lower": nothing, or a new rhs for the cell entered.
 pub enum Relaxing {
@@ -136,56 +134,4 @@ pub fn chosen(
         return Choice::On(u);
     }
     Choice::Done
-}
-
-// What a changed move asks of the cell that it enters: to keep its rhs and parent, or to take these.
-pub enum Effect {
-    Keeps,
-    To(u32, u8),
-}
-
-// A number and a cost, in 64 bits.
-fn sum_of(far: u32, cost: u8) -> usize
-    ensures { λ r. ⌜ r ≡ far + cost ⌝ }
-{
-    far as usize + cost as usize
-}
-
-// What a changed move asks of the cell v that it enters, where it has parent code k. The plan has the new cost.
-pub fn effect_of(
-    s: Session,
-    plan: &[u8],
-    g: &[u32],
-    rhs: &[u32],
-    parent: &[u8],
-    v: usize,
-    k: u8,
-    u: usize,
-    old: u8,
-    new: u8,
-) -> Effect
-    requires { ⌜ Deciding s (now plan) (now g) (now rhs) (now parent) v u ⌝ }
-    ensures { λ r. ⌜ Asked s (now (plan .entry)) (now (g .entry)) (now (rhs .entry)) (now (parent .entry)) v k u old new r ⌝ }
-{
-    let far = g[u];
-    let y = rhs[v];
-    let p = parent[v];
-    if v == s.origin {
-        return Effect::Keeps;
-    }
-    if new < old {
-        let sum = sum_of(far, new);
-        if sum < y as usize {
-            return Effect::To(sum as u32, k);
-        }
-        return Effect::Keeps;
-    }
-    if new == old {
-        return Effect::Keeps;
-    }
-    if p != k {
-        return Effect::Keeps;
-    }
-    let f = entries::anew(s.width, s.height, plan, g, v);
-    Effect::To(f.rhs, f.parent)
 }

@@ -1,6 +1,6 @@
 use native.Mathlib.Omega.{arith}
 use Rattle.plan.proofs.MoveLaws.{area}
-use Rattle.change.proofs.EffectLaws.{entering-sum, entered-in, deciding, kept-worked, asked-entering, set-worked}
+use Rattle.change.proofs.WorkLaws.{entering-sum, entered-in, deciding, kept-worked, asked-entering, set-worked}
 use borrow.Author.Needs.{needs}
 use Rattle.change.proofs.work_in.Statement.{statement}
 use Rattle.change.proofs.work_in.Tie as tie

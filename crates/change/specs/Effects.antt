@@ -9,8 +9,8 @@ use Rattle.plan.specs.Grid.{graphOf}
 use Rattle.tables.specs.declared.Session.{Session}
 use Rattle.tables.specs.Lent.{cells, floor}
 use Rattle.entries.specs.Aims.{Findable}
-use Rattle.choices.specs.declared.Effect.{Effect}
-use Rattle.choices.specs.declared.Effect.the-variants.{Keeps, To}
+use Rattle.change.specs.declared.Effect.{Effect}
+use Rattle.change.specs.declared.Effect.the-variants.{Keeps, To}
 
 -- The cell v is written: it is not the search's hunter, and the cost falls so that "g(u) + cost < rhs(v)", or rises where "u is its parent"; k is the parent code of the move at v.
 abbrev pub Touches : (hunter : ℕ) (g rhs parent : List ℕ) (v k u old new : ℕ) → Type 0

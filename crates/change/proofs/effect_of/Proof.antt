@@ -1,8 +1,8 @@
 use native.Mathlib.Omega.{arith}
-use Rattle.choices.proofs.EffectLaws.{asked-own, asked-falls, asked-high, asked-level, asked-other, asked-rises}
+use Rattle.change.proofs.EffectLaws.{asked-own, asked-falls, asked-high, asked-level, asked-other, asked-rises}
 use borrow.Author.Needs.{needs}
-use Rattle.choices.proofs.effect_of.Statement.{statement}
-use Rattle.choices.proofs.effect_of.Tie as tie
+use Rattle.change.proofs.effect_of.Statement.{statement}
+use Rattle.change.proofs.effect_of.Tie as tie
 
 -- The places that the answers look back to.
 abbrev after-shared-slice-known3 : tie.After-sum-of → tie.After-shared-slice-known3
