@@ -2,6 +2,7 @@
 use mathlib.Core.List.{List, [], _∷_, _++_}
 use Prim.Native.Nat.{ℕ, _+_}
 use native.Mathlib.Decide.{ℕ-discrete, decLt}
+use Rattle.decide.specs.Choose.{choose}
 use Rattle.method.specs.Tables as method
 use Rattle.method.specs.Graph.{Hunt}
 use Rattle.method.specs.Steps.{Kind, stepped}
@@ -53,9 +54,9 @@ searched p o = record { after = standing p (o .session) (o .tables); shown = cel
 
 -- One action. A badly formed one is in no file that is played.
 unfoldable pub turn : Standing → Action → Turn
-turn S (Change u d cost) = method.choose (ℕ-discrete (moveNumber (S .plan) u d cost) 0) (accepted (changed S u d cost)) (refused S (moveNumber (S .plan) u d cost))
-turn S (Hunter s) = method.choose (decLt s (cells (S .plan))) (accepted (standing (S .plan) (method-session.hunterPlaced (S .session) s) (S .tables))) (refused S 3)
-turn S (Target s) = method.choose (decLt s (cells (S .plan))) (accepted (standing (S .plan) (method-session.targetPlaced (S .session) s) (S .tables))) (refused S 3)
+turn S (Change u d cost) = choose (ℕ-discrete (moveNumber (S .plan) u d cost) 0) (accepted (changed S u d cost)) (refused S (moveNumber (S .plan) u d cost))
+turn S (Hunter s) = choose (decLt s (cells (S .plan))) (accepted (standing (S .plan) (method-session.hunterPlaced (S .session) s) (S .tables))) (refused S 3)
+turn S (Target s) = choose (decLt s (cells (S .plan))) (accepted (standing (S .plan) (method-session.targetPlaced (S .session) s) (S .tables))) (refused S 3)
 turn S Search = searched (S .plan) (method-session.search (graphOf (S .plan)) (S .session) (S .tables))
 turn S Bad = accepted S
 
