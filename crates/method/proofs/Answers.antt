@@ -1,7 +1,7 @@
 -- What right tables answer when the loop has stopped: the cells from parent to parent are a cheapest chain, or there is no chain.
 use mathlib.Core.Path.{_≡_, refl, sym, ap, subst, _∙_}
 use mathlib.Core.Logic.{_⊎_, inl, inr, _≢_}
-use mathlib.Core.List.{List, [], _∷_, _++_, append-assoc, List·Memᴰ, List·Memᴰ·head, List·Memᴰ·tail, List·Memᴰ·not-nil, List·Memᴰ·cases-cons}
+use mathlib.Core.List.{List, [], _∷_, _++_, append-assoc, append-nil, List·Memᴰ, List·Memᴰ·head, List·Memᴰ·tail, List·Memᴰ·not-nil, List·Memᴰ·cases-cons}
 use Prim.Native.Nat.{ℕ, zero, suc, _+_, _-_, _≤_, _<_}
 use native.Mathlib.Omega.{arith}
 use native.Mathlib.Decide.{ℕ-discrete, decLe}
@@ -77,12 +77,36 @@ pub data Trail (H : Hunt) (parent : List ℕ) : ℕ → List ℕ → Type 0 wher
   home : Trail H parent (H .hunter) (H .hunter ∷ [])
   link : {s w c : ℕ} {l : List ℕ} → s ≢ H .hunter → Comes (H .graph) s (getD parent s 0) w c → Trail H parent w l → Trail H parent s (l ++ (s ∷ []))
 
--- The list l of cells leads from the hunter to the target, where s led there at cost d.
-record Led (H : Hunt) (T : Tables) (s d : ℕ) (rest l : List ℕ) : Type 0 where
+trail-long : {H : Hunt} {parent : List ℕ} {s : ℕ} {l : List ℕ} → Trail H parent s l → 1 ≤ length l
+trail-long home = omega arith
+trail-long (link {s} {l = l} n m t) = omega (arith, length-append l (s ∷ []))
+
+-- The cells of the way are those of the trail, hunter first.
+pub trail-way : {H : Hunt} → GraphLaws (H .graph) → {parent : List ℕ} {s : ℕ} {l : List ℕ} → Trail H parent s l → (links : ℕ) (rest : List ℕ) → length l ≤ suc links
+    → wayFrom H parent links s rest ≡ l ++ rest
+unfolding wayFrom
+trail-way L home zero rest h = refl
+trail-way {H} L {parent} home (suc links) rest h = choose-yes (ℕ-discrete (H .hunter) (H .hunter)) (H .hunter ∷ rest) _ refl
+trail-way L (link {s} {l = l} n m t) zero rest h = absurd (omega (arith, length-append l (s ∷ []), trail-long t))
+trail-way {H} L {parent} (link {s} {l = l} n m t) (suc links) rest h =
+    choose-no (ℕ-discrete s (H .hunter)) (s ∷ rest) _ n
+    ∙ ap (λ x. wayFrom H parent links x (s ∷ rest)) (parent-cell L m)
+    ∙ trail-way L t links (s ∷ rest) (omega (arith, length-append l (s ∷ [])))
+    ∙ sym (append-assoc l (s ∷ []) rest)
+
+-- One more move at the end of a chain.
+chain-more : {G : Graph} {a b e k c d : ℕ} {l : List ℕ} → Chain G a l b d → Comes G e k b c → Chain G a (l ++ (e ∷ [])) e (d + c)
+chain-more {G} {e = e} {c = c} (stay {a}) m = subst (Chain G a (a ∷ e ∷ []) e) (omega arith) (go m stay)
+chain-more {G} {e = e} {c = c} (go {a} {c = c₁} {d = d₁} {l = l} m₁ w) m = subst (Chain G a (a ∷ (l ++ (e ∷ []))) e) (omega arith) (go m₁ (chain-more w m))
+
+-- The trail from s: no more cells than have an rhs of at most that of s, and a chain at cost rhs(s) − rhs(hunter).
+record Followed (H : Hunt) (T : Tables) (s : ℕ) : Type 0 where
+  cells : List ℕ
+  trail : Trail H (T .parent) s cells
+  short : length cells ≤ upTo H T (rhsAt T s)
   cost : ℕ
-  leads : Chain (H .graph) (H .hunter) l (H .target) cost
-  sum : rhsAt T (H .hunter) + cost ≡ rhsAt T s + d
-  short : length l ≤ upTo H T (rhsAt T s) + length rest
+  chain : Chain (H .graph) (H .hunter) cells s cost
+  sum : rhsAt T (H .hunter) + cost ≡ rhsAt T s
 
 module _ {H : Hunt} {T : Tables} (L : Stands H) (R : Right H T) (Z : Stopped H T) where
   -- a queued cell's key is at least the target's
@@ -171,84 +195,47 @@ module _ {H : Hunt} {T : Tables} (L : Stands H) (R : Right H T) (Z : Stopped H T
             key-le = omega (arith, L .laws .near s (parentAt T s) w c (H .target) (v .1 .comes));
           }
 
-  at-home : (s d : ℕ) (rest : List ℕ) → s < H .graph .cells → s ≡ H .hunter → Chain (H .graph) s (s ∷ rest) (H .target) d → Led H T s d rest (s ∷ rest)
-  at-home s d rest l e w =
-      let z : 1 ≤ upTo H T (rhsAt T s) = upTo-self H T s l in
-      record { cost = d; leads = subst (λ a. Chain (H .graph) a (s ∷ rest) (H .target) d) e w; sum = ap (λ a. rhsAt T a + d) (sym e); short = omega arith }
-
-  way-from : (links s d : ℕ) (rest : List ℕ) → upTo H T (rhsAt T s) ≤ suc links → s < H .graph .cells → rhsAt T s < infinite → keyAt H s (rhsAt T s) ≤ key H T (H .target)
-      → Chain (H .graph) s (s ∷ rest) (H .target) d → Led H T s d rest (wayFrom H (T .parent) links s rest)
-  unfolding wayFrom
-  way-from zero s d rest h l fin kl w = at (ℕ-discrete s (H .hunter))
+  -- the parents lead from s to the hunter
+  follow : (n s : ℕ) → upTo H T (rhsAt T s) ≤ n → s < H .graph .cells → rhsAt T s < infinite → keyAt H s (rhsAt T s) ≤ key H T (H .target) → Followed H T s
+  follow zero s h l fin kl = absurd (omega (arith, upTo-self H T s l))
+  follow (suc n) s h l fin kl = at (λ x. follow n x) (ℕ-discrete s (H .hunter))
     where
-      at : Dec (s ≡ H .hunter) → Led H T s d rest (s ∷ rest)
-      at (yes e) = at-home s d rest l e w
-      at (no ns) =
-          let p = parent-of s l ns fin kl in
-          absurd (omega (arith, upTo-less H T s (p .from) l (p .less), upTo-self H T (p .from) (p .from-in)))
-  way-from (suc links) s d rest h l fin kl w =
-      choose-is (λ x. Led H T s d rest x) _ (λ e. at-home s d rest l e w)
-      (λ ns. on (λ x. way-from links x) (parent-of s l ns fin kl))
-    where
-      on : ((x d : ℕ) (rest : List ℕ) → upTo H T (rhsAt T x) ≤ suc links → x < H .graph .cells → rhsAt T x < infinite → keyAt H x (rhsAt T x) ≤ key H T (H .target)
-          → Chain (H .graph) x (x ∷ rest) (H .target) d → Led H T x d rest (wayFrom H (T .parent) links x rest)) → Parent s
-          → Led H T s d rest (wayFrom H (T .parent) links (parentCell (H .graph .into s) (getD (T .parent) s 0)) (s ∷ rest))
-      on ih p =
+      on : ((x : ℕ) → upTo H T (rhsAt T x) ≤ n → x < H .graph .cells → rhsAt T x < infinite → keyAt H x (rhsAt T x) ≤ key H T (H .target) → Followed H T x) → s ≢ H .hunter → Parent s
+          → Followed H T s
+      on ih ns p =
           let up : upTo H T (rhsAt T (p .from)) < upTo H T (rhsAt T s) = upTo-less H T s (p .from) l (p .less) in
           let lt : rhsAt T (p .from) < rhsAt T s = p .less in
-          let r = ih (p .from) (p .cost + d) (s ∷ rest) (omega arith) (p .from-in) (omega arith) (p .key-le) (go (p .comes) w) in
-          rw (parent-cell (L .laws) (p .comes)) (record { cost = r .cost; leads = r .leads; sum = omega (arith, r .sum, p .sum); short = omega (arith, r .short) })
+          let r = ih (p .from) (omega arith) (p .from-in) (omega arith) (p .key-le) in
+          record {
+            cells = r .cells ++ (s ∷ []);
+            trail = link ns (p .comes) (r .trail);
+            short = omega (arith, length-append (r .cells) (s ∷ []), r .short);
+            cost = r .cost + p .cost;
+            chain = chain-more (r .chain) (p .comes);
+            sum = omega (arith, r .sum, p .sum);
+          }
+
+      at : ((x : ℕ) → upTo H T (rhsAt T x) ≤ n → x < H .graph .cells → rhsAt T x < infinite → keyAt H x (rhsAt T x) ≤ key H T (H .target) → Followed H T x) → Dec (s ≡ H .hunter)
+          → Followed H T s
+      at ih (yes e) =
+          subst (Followed H T) (sym e)
+          (record { cells = H .hunter ∷ []; trail = home; short = omega (arith, upTo-self H T (H .hunter) (L .hunter-in)); cost = 0; chain = stay; sum = omega arith })
+      at ih (no ns) = on ih ns (parent-of s l ns fin kl)
+
+  followed : rhsAt T (H .target) < infinite → Followed H T (H .target)
+  followed fin = follow (upTo H T (rhsAt T (H .target))) (H .target) (omega arith) (L .target-in) fin (omega (arith, Z .not-over))
 
   -- rhs of the target finite: the way found is a cheapest one, with at most as many cells as the graph has
   pub cheapest : rhsAt T (H .target) < infinite
       → Cheapest (H .graph) (H .hunter) (H .target) (rhsAt T (H .target) - rhsAt T (H .hunter)) (wayFrom H (T .parent) (H .graph .cells) (H .target) [])
       × (length (wayFrom H (T .parent) (H .graph .cells) (H .target) []) ≤ H .graph .cells)
   cheapest fin =
-      let n : upTo H T (rhsAt T (H .target)) ≤ H .graph .cells = upTo-le H T (rhsAt T (H .target)) in
-      let r = way-from (H .graph .cells) (H .target) 0 [] (omega arith) (L .target-in) fin (omega (arith, Z .not-over)) stay in
+      let r = followed fin in
+      let few : length (r .cells) ≤ H .graph .cells = omega (arith, r .short, upTo-le H T (rhsAt T (H .target))) in
+      let cells-are : wayFrom H (T .parent) (H .graph .cells) (H .target) [] ≡ r .cells = trail-way (L .laws) (r .trail) (H .graph .cells) [] (omega arith) ∙ append-nil (r .cells) in
       let e : r .cost ≡ rhsAt T (H .target) - rhsAt T (H .hunter) = omega (arith, r .sum) in
-      (record { leads = rw e at (r .leads); least = λ l d w. omega (arith, every-chain w) }, omega (arith, r .short))
-
-  -- the parents lead from s to the hunter
-  trail-from : (n s : ℕ) → upTo H T (rhsAt T s) ≤ n → s < H .graph .cells → rhsAt T s < infinite → keyAt H s (rhsAt T s) ≤ key H T (H .target)
-      → (l : List ℕ) × Trail H (T .parent) s l × (length l ≤ upTo H T (rhsAt T s)) × (rhsAt T (H .hunter) ≤ rhsAt T s)
-  trail-from zero s h l fin kl = absurd (omega (arith, upTo-self H T s l))
-  trail-from (suc n) s h l fin kl = at (λ x. trail-from n x) (ℕ-discrete s (H .hunter))
-    where
-      on : ((x : ℕ) → upTo H T (rhsAt T x) ≤ n → x < H .graph .cells → rhsAt T x < infinite → keyAt H x (rhsAt T x) ≤ key H T (H .target)
-          → (l : List ℕ) × Trail H (T .parent) x l × (length l ≤ upTo H T (rhsAt T x)) × (rhsAt T (H .hunter) ≤ rhsAt T x)) → s ≢ H .hunter → Parent s
-          → (l : List ℕ) × Trail H (T .parent) s l × (length l ≤ upTo H T (rhsAt T s)) × (rhsAt T (H .hunter) ≤ rhsAt T s)
-      on ih ns p =
-          let up : upTo H T (rhsAt T (p .from)) < upTo H T (rhsAt T s) = upTo-less H T s (p .from) l (p .less) in
-          let lt : rhsAt T (p .from) < rhsAt T s = p .less in
-          let r = ih (p .from) (omega arith) (p .from-in) (omega arith) (p .key-le) in
-          (r .0 ++ (s ∷ []), link ns (p .comes) (r .1), omega (arith, length-append (r .0) (s ∷ []), r .2), omega (arith, r .3))
-
-      at : ((x : ℕ) → upTo H T (rhsAt T x) ≤ n → x < H .graph .cells → rhsAt T x < infinite → keyAt H x (rhsAt T x) ≤ key H T (H .target)
-          → (l : List ℕ) × Trail H (T .parent) x l × (length l ≤ upTo H T (rhsAt T x)) × (rhsAt T (H .hunter) ≤ rhsAt T x)) → Dec (s ≡ H .hunter)
-          → (l : List ℕ) × Trail H (T .parent) s l × (length l ≤ upTo H T (rhsAt T s)) × (rhsAt T (H .hunter) ≤ rhsAt T s)
-      at ih (yes e) = (H .hunter ∷ [], subst (λ x. Trail H (T .parent) x (H .hunter ∷ [])) (sym e) home, omega (arith, upTo-self H T s l), omega (arith, ap (λ x. rhsAt T x) e))
-      at ih (no ns) = on ih ns (parent-of s l ns fin kl)
+      rw cells-are (record { leads = rw e at (r .chain); least = λ l d w. omega (arith, every-chain w) }, few)
 
   -- rhs of the target finite: the parents lead from the target to the hunter, whose rhs is not above, over at most as many cells as the graph has
   pub trail : rhsAt T (H .target) < infinite → (l : List ℕ) × Trail H (T .parent) (H .target) l × (length l ≤ H .graph .cells) × (rhsAt T (H .hunter) ≤ rhsAt T (H .target))
-  trail fin =
-      let r = trail-from (upTo H T (rhsAt T (H .target))) (H .target) (omega arith) (L .target-in) fin (omega (arith, Z .not-over)) in
-      (r .0, r .1, omega (arith, r .2, upTo-le H T (rhsAt T (H .target))), r .3)
-
-trail-long : {H : Hunt} {parent : List ℕ} {s : ℕ} {l : List ℕ} → Trail H parent s l → 1 ≤ length l
-trail-long home = omega arith
-trail-long (link {s} {l = l} n m t) = omega (arith, length-append l (s ∷ []))
-
--- The cells of the way are those of the trail, hunter first.
-pub trail-way : {H : Hunt} → GraphLaws (H .graph) → {parent : List ℕ} {s : ℕ} {l : List ℕ} → Trail H parent s l → (links : ℕ) (rest : List ℕ) → length l ≤ suc links
-    → wayFrom H parent links s rest ≡ l ++ rest
-unfolding wayFrom
-trail-way L home zero rest h = refl
-trail-way {H} L {parent} home (suc links) rest h = choose-yes (ℕ-discrete (H .hunter) (H .hunter)) (H .hunter ∷ rest) _ refl
-trail-way L (link {s} {l = l} n m t) zero rest h = absurd (omega (arith, length-append l (s ∷ []), trail-long t))
-trail-way {H} L {parent} (link {s} {l = l} n m t) (suc links) rest h =
-    choose-no (ℕ-discrete s (H .hunter)) (s ∷ rest) _ n
-    ∙ ap (λ x. wayFrom H parent links x (s ∷ rest)) (parent-cell L m)
-    ∙ trail-way L t links (s ∷ rest) (omega (arith, length-append l (s ∷ [])))
-    ∙ sym (append-assoc l (s ∷ []) rest)
+  trail fin = let r = followed fin in (r .cells, r .trail, omega (arith, r .short, upTo-le H T (rhsAt T (H .target))), omega (arith, r .sum))
