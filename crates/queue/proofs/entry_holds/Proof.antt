@@ -78,7 +78,8 @@ returns-6 c =
     let n = not-first (c .before .before) in
     let w = placed n in
     let u = used w in
-    entry-under (u .before .wide .ensures) (u .if1 .left) (w .wide2 .ensures) (n .if4 .left) (c .before .before .wide3 .ensures) (w .before .before .if2 .left) (n .before .if3 .left) (c .before .if5 .left) (c .cell-before .ensures)
+    entry-under (u .before .wide .ensures) (u .if1 .left) (w .wide2 .ensures) (n .if4 .left) (c .before .before .wide3 .ensures)
+    (w .before .before .if2 .left) (n .before .if3 .left) (c .before .if5 .left) (c .cell-before .ensures)
 
 pub entry-holds-spec : {M : Type 1} → statement M
 entry-holds-spec =

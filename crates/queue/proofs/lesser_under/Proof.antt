@@ -8,6 +8,9 @@ use borrow.Author.Needs.{needs}
 use Rattle.queue.proofs.lesser_under.Statement.{statement}
 use Rattle.queue.proofs.lesser_under.Tie as tie
 
+abbrev at-start : tie.After-shared-slice-known3 → tie.Start
+at-start t = t .before .before .before
+
 add-left : tie.Need-add-left
 add-left c = search needs
 
@@ -18,17 +21,16 @@ add-right : tie.Need-add-right
 add-right c = search needs
 
 place-before-requires : tie.Need-place-before-requires
-place-before-requires c κs = may-compare (c .before .before .before .before .pre .0) (c .if1 .taken) (c .before .before .before .before .pre .1)
+place-before-requires c κs = let p = at-start (c .before) .pre in may-compare (p .0) (c .if1 .taken) (p .1)
 
 returns : tie.Need-returns
 returns c = lesser-right (before-order _ _ _) (c .before .before .if1 .taken) (sym (c .before .place-before .ensures) ∙ c .if2 .taken)
 
 returns-2 : tie.Need-returns-2
-returns-2 c =
-    lesser-left (before-order _ _ _) (c .before .before .before .before .before .before .pre .1) (λ b. sym (c .before .place-before .ensures) ∙ c .if2 .left)
+returns-2 c = lesser-left (before-order _ _ _) (at-start (c .before .before .before) .pre .1) (λ b. sym (c .before .place-before .ensures) ∙ c .if2 .left)
 
 returns-3 : tie.Need-returns-3
-returns-3 c = lesser-left (before-order _ _ _) (c .before .before .before .before .pre .1) (λ b. absurd (omega arith))
+returns-3 c = lesser-left (before-order _ _ _) (at-start (c .before) .pre .1) (λ b. absurd (omega arith))
 
 pub lesser-under-spec : {M : Type 1} → statement M
 lesser-under-spec =

@@ -5,6 +5,10 @@ use borrow.Author.Needs.{needs}
 use Rattle.queue_trial.proofs.fold_queue.Statement.{statement}
 use Rattle.queue_trial.proofs.fold_queue.Tie as tie
 
+-- where the queue is not empty
+abbrev at-start : tie.Else1 → tie.Start
+at-start t = t .before .before .before .before .before .before .before
+
 fold-requires : tie.Need-fold-requires
 fold-requires c κs = search needs
 
@@ -19,7 +23,7 @@ least-requires c κs = search needs
 
 fold-cell-requires-2 : tie.Need-fold-cell-requires-2
 fold-cell-requires-2 c κs =
-    let h = c .before .before .before .before .before .before .before .before .pre .0 in
+    let h = at-start (c .before) .pre .0 in
     let l = least-place h (omega arith) (c .least .ensures) in
     omega (arith, l .0, h .tables .length1, h .tables .length2, h .tables .agree .lengthPlace)
 

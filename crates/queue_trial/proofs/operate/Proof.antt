@@ -4,6 +4,16 @@ use borrow.Author.Needs.{needs}
 use Rattle.queue_trial.proofs.operate.Statement.{statement}
 use Rattle.queue_trial.proofs.operate.Tie as tie
 
+abbrev at-start : tie.Else1 → tie.Start
+at-start t = t .before .before .before .before .before .before
+
+-- where the cell is queued
+abbrev queued-for-take-least : tie.After-take-least-arg4 → tie.Else1
+queued-for-take-least t = t .before .before .before .before .before .before
+
+abbrev queued-for-put-under : tie.After-put-under-arg4 → tie.Else1
+queued-for-put-under t = t .before .before .before .before .before .before
+
 mul-first : tie.Need-mul-first
 mul-first c = search needs
 
@@ -57,8 +67,9 @@ returns-2 c = search needs
 
 take-least-requires : tie.Need-take-least-requires
 take-least-requires c κs =
-    let h = c .before .before .before .before .before .before .before .before .before .before .before .before .pre in
-    (h .0, some-queued (h .0) (h .1) (c .before .before .before .before .before .before .if1 .left))
+    let q = queued-for-take-least c in
+    let h = at-start q .pre in
+    (h .0, some-queued (h .0) (h .1) (q .if1 .left))
 
 same-length-9 : tie.Need-same-length-9
 same-length-9 c = search needs
@@ -77,8 +88,9 @@ returns-3 c = search needs
 
 put-under-requires : tie.Need-put-under-requires
 put-under-requires c κs =
-    let h = c .before .before .before .before .before .before .before .before .before .before .before .before .pre in
-    (h .0, (h .1, c .before .before .before .before .before .before .if1 .left))
+    let q = queued-for-put-under c in
+    let h = at-start q .pre in
+    (h .0, (h .1, q .if1 .left))
 
 same-length-13 : tie.Need-same-length-13
 same-length-13 c = search needs

@@ -4,13 +4,20 @@ use borrow.Author.Needs.{needs}
 use Rattle.queue_trial.proofs.take_least.Statement.{statement}
 use Rattle.queue_trial.proofs.take_least.Tie as tie
 
+abbrev at-start : tie.After-least → tie.Start
+at-start t = t .before .before .before .before .before .before
+
+abbrev after-least : tie.After-take-out-arg4 → tie.After-least
+after-least t = t .before .before .before .before
+
 least-requires : tie.Need-least-requires
 least-requires c κs = search needs
 
 take-out-requires : tie.Need-take-out-requires
 take-out-requires c κs =
-    let h = c .before .before .before .before .before .before .before .before .before .before .pre in
-    (h .0, least-place (h .0) (h .1) (c .before .before .before .before .least .ensures))
+    let l = after-least c in
+    let h = at-start l .pre in
+    (h .0, least-place (h .0) (h .1) (l .least .ensures))
 
 same-length : tie.Need-same-length
 same-length c = search needs

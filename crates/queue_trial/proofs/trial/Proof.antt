@@ -5,11 +5,20 @@ use borrow.Author.Needs.{needs}
 use Rattle.queue_trial.proofs.trial.Statement.{statement}
 use Rattle.queue_trial.proofs.trial.Tie as tie
 
+abbrev at-start : tie.After-clear → tie.Start
+at-start t = t .before .before .before .before .before .before .before .before .before
+
+abbrev after-clear : tie.After-exercise-arg4 → tie.After-clear
+after-clear t = t .before .before .before .before .before .before .before .before .before .before .before .before
+
 clear-requires : tie.Need-clear-requires
 clear-requires c κs = search needs
 
 exercise-requires : tie.Need-exercise-requires
-exercise-requires c κs = let h = c .before .before .before .before .before .before .before .before .before .before .before .before .clear .ensures in (heap-own h, omega (arith, c .before .before .before .before .before .before .before .before .before .before .before .before .before .before .before .before .before .before .before .before .before .pre .1 .1, h .tables .agree .lengthList))
+exercise-requires c κs =
+    let t = after-clear c in
+    let h = t .clear .ensures in
+    (heap-own h, omega (arith, at-start t .pre .1 .1, h .tables .agree .lengthList))
 
 same-length : tie.Need-same-length
 same-length c = search needs
