@@ -5,6 +5,39 @@ use borrow.Author.Needs.{needs}
 use Rattle.drill.proofs.play_action.Statement.{statement}
 use Rattle.drill.proofs.play_action.Tie as tie
 
+-- The places that the answers look back to.
+abbrev at-start-from-slice-known10 : tie.After-slice-known10 → tie.Start
+at-start-from-slice-known10 c = c .before .before .before .before .before .before .before .before .before .before
+
+abbrev at-start-for-returns-5 : tie.After-enum-told2 → tie.Start
+at-start-for-returns-5 c = at-start-from-slice-known10 (c .before .before)
+
+abbrev at-start-from-place-hunter : tie.After-place-hunter → tie.Start
+at-start-from-place-hunter c = at-start-from-slice-known10 (c .before .before .before .before)
+
+abbrev at-start-from-place-target : tie.After-place-target → tie.Start
+at-start-from-place-target c = at-start-from-slice-known10 (c .before .before .before .before)
+
+abbrev after-place-hunter : tie.After-slice-known19 → tie.After-place-hunter
+after-place-hunter c = c .before .before .before .before
+
+abbrev after-place-target : tie.After-slice-known20 → tie.After-place-target
+after-place-target c = c .before .before .before .before
+
+abbrev after-play-change : tie.After-slice-known18 → tie.After-play-change
+after-play-change c =
+    c .before .before .before .before .before .before .before .before .before .before .before .before .before .before .before .before
+
+abbrev after-action : tie.After-slice-known18 → tie.After-action
+after-action c = after-play-change c .before .before .before .before .before .before .before .before .before .before .before .before
+
+abbrev after-play-search : tie.After-slice-known29 → tie.After-play-search
+after-play-search c =
+    c .before .before .before .before .before .before .before .before .before .before .before .before .before .before .before .before .before .before
+
+abbrev after-enum-told : tie.After-slice-known29 → tie.After-enum-told
+after-enum-told c = after-play-search c .before .before .before .before .before .before .before .before .before .before .before
+
 enum-known-action : tie.Need-enum-known-action
 enum-known-action c = search needs
 
@@ -70,26 +103,31 @@ same-length-10 c = search needs
 
 returns : tie.Need-returns
 returns c =
-    let played = c .before .before .before .before .before .before .before .before .before .before .before .before .before .before .before .before in
-    turns-at (played .before .before .before .before .before .before .before .before .before .before .before .before .action .given .1) refl (played .play-change .ensures)
+    turns-at (after-action c .action .given .1) refl (after-play-change c .play-change .ensures)
 
 same-length-11 : tie.Need-same-length-11
 same-length-11 c = search needs
 
 returns-2 : tie.Need-returns-2
 returns-2 c =
-    let placed = c .before .before .before .before in
-    let start = placed .before .before .before .before .before .before .before .before .before .before .before .before .before .before in
-    turns-at (placed .before .before .action2 .given .1) refl (turns-of (hunter-replied (start .pre .sound) (placed .place-hunter .ensures)) (c .before .before .put-reply .ensures))
+    turns-at
+    (after-place-hunter c .before .before .action2 .given .1)
+    refl
+    (turns-of
+    (hunter-replied (at-start-from-place-hunter (after-place-hunter c) .pre .sound) (after-place-hunter c .place-hunter .ensures))
+    (c .before .before .put-reply .ensures))
 
 same-length-12 : tie.Need-same-length-12
 same-length-12 c = search needs
 
 returns-3 : tie.Need-returns-3
 returns-3 c =
-    let placed = c .before .before .before .before in
-    let start = placed .before .before .before .before .before .before .before .before .before .before .before .before .before .before in
-    turns-at (placed .before .before .action3 .given .1) refl (turns-of (target-replied (start .pre .sound) (placed .place-target .ensures)) (c .before .before .put-reply2 .ensures))
+    turns-at
+    (after-place-target c .before .before .action3 .given .1)
+    refl
+    (turns-of
+    (target-replied (at-start-from-place-target (after-place-target c) .pre .sound) (after-place-target c .place-target .ensures))
+    (c .before .before .put-reply2 .ensures))
 
 same-length-13 : tie.Need-same-length-13
 same-length-13 c = search needs
@@ -123,11 +161,10 @@ same-length-22 c = search needs
 
 returns-4 : tie.Need-returns-4
 returns-4 c =
-    let played = c .before .before .before .before .before .before .before .before .before .before .before .before .before .before .before .before .before .before in
-    turns-at (played .before .before .before .before .before .before .before .before .before .before .before .enum-told .given .1) refl (played .play-search .ensures)
+    turns-at (after-enum-told c .enum-told .given .1) refl (after-play-search c .play-search .ensures)
 
 returns-5 : tie.Need-returns-5
-returns-5 c = turns-at (c .enum-told2 .given .1) refl (bad-turns (c .before .before .before .before .before .before .before .before .before .before .before .before .pre .sound))
+returns-5 c = turns-at (c .enum-told2 .given .1) refl (bad-turns (at-start-for-returns-5 c .pre .sound))
 
 pub play-action-spec : {M : Type 1} → statement M
 play-action-spec =

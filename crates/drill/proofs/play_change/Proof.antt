@@ -5,14 +5,24 @@ use borrow.Author.Needs.{needs}
 use Rattle.drill.proofs.play_change.Statement.{statement}
 use Rattle.drill.proofs.play_change.Tie as tie
 
+-- The places that the answers look back to.
+abbrev at-start : tie.After-change-sound → tie.Start
+at-start c =
+    c .before .before .before .before .before .before .before .before .before .before .before .before .before .before .before .before .before .before
+
+abbrev after-change-sound-for-put-reply : tie.After-put-reply-arg → tie.After-change-sound
+after-change-sound-for-put-reply c =
+    c .before .before .before .before .before .before .before .before .before .before .before .before .before .before .before
+
+abbrev after-change-sound : tie.After-slice-known16 → tie.After-change-sound
+after-change-sound c = after-change-sound-for-put-reply (c .before .before .before)
+
 change-sound-requires : tie.Need-change-sound-requires
 change-sound-requires c κs = search needs
 
 put-reply-requires : tie.Need-put-reply-requires
 put-reply-requires c κs =
-    let changed = c .before .before .before .before .before .before .before .before .before .before .before .before .before .before .before in
-    let start = changed .before .before .before .before .before .before .before .before .before .before .before .before .before .before .before .before .before .before in
-    omega (arith, start .pre .text-room)
+    omega (arith, at-start (after-change-sound-for-put-reply c) .pre .text-room)
 
 same-length : tie.Need-same-length
 same-length c = search needs
@@ -40,9 +50,9 @@ same-length-8 c = search needs
 
 returns : tie.Need-returns
 returns c =
-    let changed = c .before .before .before .before .before .before .before .before .before .before .before .before .before .before .before .before .before .before in
-    let start = changed .before .before .before .before .before .before .before .before .before .before .before .before .before .before .before .before .before .before in
-    turns-of (change-replied (start .pre .sound) (changed .change-sound .ensures)) (c .before .before .put-reply .ensures)
+    turns-of
+    (change-replied (at-start (after-change-sound c) .pre .sound) (after-change-sound c .change-sound .ensures))
+    (c .before .before .put-reply .ensures)
 
 pub play-change-spec : {M : Type 1} → statement M
 play-change-spec =

@@ -5,15 +5,30 @@ use borrow.Author.Needs.{needs}
 use Rattle.drill.proofs.play_search.Statement.{statement}
 use Rattle.drill.proofs.play_search.Tie as tie
 
+-- The places that the answers look back to.
+abbrev after-search-sound : tie.After-way → tie.After-search-sound
+after-search-sound c = c .before .before .before .before .before .before .before .before .before .before .before .before .before .before .before
+
+abbrev at-start-from-way : tie.After-way → tie.Start
+at-start-from-way c =
+    after-search-sound c .before .before .before .before .before .before .before .before .before .before .before .before .before .before .before .before .before .before .before
+
+abbrev at-start : tie.After-put-answer-arg2 → tie.Start
+at-start c = at-start-from-way (c .before .before .before .before)
+
+abbrev after-way : tie.After-slice-known18 → tie.After-way
+after-way c = c .before .before .before .before .before .before .before
+
 search-sound-requires : tie.Need-search-sound-requires
 search-sound-requires c κs = search needs
 
 put-answer-requires : tie.Need-put-answer-requires
 put-answer-requires c κs =
-    let found = c .before .before .before .before .before .before .before .before .before .before .before .before .before .before .before .before .before .before .before in
-    let start = found .before .before .before .before .before .before .before .before .before .before .before .before .before .before .before .before .before .before .before in
-    let few = shown-few (start .pre .sound) (start .pre .way-room) (found .search-sound .ensures) in
-    (omega (arith, few, start .pre .way-room, c .before .before .before .before .way), omega (arith, few, start .pre .text-room))
+    let few = shown-few
+    (at-start c .pre .sound)
+    (at-start c .pre .way-room)
+    (after-search-sound (c .before .before .before .before) .search-sound .ensures) in
+    (omega (arith, few, at-start c .pre .way-room, c .before .before .before .before .way), omega (arith, few, at-start c .pre .text-room))
 
 same-length : tie.Need-same-length
 same-length c = search needs
@@ -44,9 +59,11 @@ same-length-9 c = search needs
 
 returns : tie.Need-returns
 returns c =
-    let found = c .before .before .before .before .before .before .before .before .before .before .before .before .before .before .before .before .before .before .before .before .before .before in
-    let start = found .before .before .before .before .before .before .before .before .before .before .before .before .before .before .before .before .before .before .before in
-    search-turns (start .pre .sound) (start .pre .way-room) (found .search-sound .ensures) (c .before .before .put-answer .ensures)
+    search-turns
+    (at-start-from-way (after-way c) .pre .sound)
+    (at-start-from-way (after-way c) .pre .way-room)
+    (after-search-sound (after-way c) .search-sound .ensures)
+    (c .before .before .put-answer .ensures)
 
 pub play-search-spec : {M : Type 1} → statement M
 play-search-spec =

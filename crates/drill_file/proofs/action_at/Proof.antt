@@ -7,6 +7,10 @@ use borrow.Author.Needs.{needs}
 use Rattle.drill_file.proofs.action_at.Statement.{statement}
 use Rattle.drill_file.proofs.action_at.Tie as tie
 
+-- The places that the answers look back to.
+abbrev else-2 : tie.After-action-of → tie.Else2
+else-2 c = c .before .before .before .before .before
+
 returns : tie.Need-returns
 unfolding actionAt
 returns c = passed-by _ _ (λ l. omega (arith, l, c .if1 .taken)) refl
@@ -44,7 +48,10 @@ action-of-requires c κs = search needs
 
 returns-3 : tie.Need-returns-3
 unfolding actionAt
-returns-3 c = chosen _ _ (omega (arith, c .before .before .before .before .before .before .if1 .left, c .before .before .before .before .before .if2 .left)) (rw (← (c .before .before .before .two-at .ensures)) (c .action-of .ensures))
+returns-3 c =
+    chosen _ _
+    (omega (arith, else-2 c .before .if1 .left, else-2 c .if2 .left))
+    (rw (← (c .before .before .before .two-at .ensures)) (c .action-of .ensures))
 
 pub action-at-spec : {M : Type 1} → statement M
 action-at-spec =

@@ -12,23 +12,23 @@ use Rattle.drill_file.proofs.form.Statement.{statement}
 use Rattle.drill_file.proofs.form.Tie as tie
 
 -- The places that the answers look back to.
-abbrev at-start-from-is-size : tie.After-is-size → tie.Start
-at-start-from-is-size c = c .before .before .before .before
+abbrev at-start : tie.After-is-size → tie.Start
+at-start c = c .before .before .before .before
 
 abbrev else-3 : tie.Else4 → tie.Else3
 else-3 c = c .before .before .before
 
-abbrev else-2 : tie.Then4 → tie.Else2
-else-2 c = c .before .before .before .before .before
+abbrev after-is-size : tie.Then4 → tie.After-is-size
+after-is-size c = c .before .before .before .before
 
-abbrev at-start-from-else-4 : tie.Else4 → tie.Start
-at-start-from-else-4 c = at-start-from-is-size (else-3 c .before)
+abbrev after-shared-slice-known : tie.Else4 → tie.After-shared-slice-known
+after-shared-slice-known c = else-3 c .before .before .before .before
 
 abbrev else-4 : tie.After-well-formed → tie.Else4
 else-4 c = c .before .before .before .before
 
-abbrev after-is-size : tie.After-well-formed → tie.After-is-size
-after-is-size c = else-3 (else-4 c) .before
+abbrev after-is-size-from-well-formed : tie.After-well-formed → tie.After-is-size
+after-is-size-from-well-formed c = else-3 (else-4 c) .before
 
 returns : tie.Need-returns
 unfolding formNumber
@@ -43,7 +43,7 @@ is-size-requires c κs = search needs
 
 returns-3 : tie.Need-returns-3
 returns-3 c =
-    form-of _ (at-start-from-is-size (c .before) .pre) (c .before .before .before .if1 .left) (c .before .before .if2 .left)
+    form-of _ (at-start (c .before) .pre) (c .before .before .before .if1 .left) (c .before .before .if2 .left)
     (passed-by _ _ (refuted (c .before .is-size .ensures) (not-true _ (c .if3 .taken))) refl)
 
 mul-plan-bytes : tie.Need-mul-plan-bytes
@@ -54,8 +54,8 @@ mul-plan-bytes-2 c = omega (arith, area (c .before .before .is-size .ensures .so
 
 returns-4 : tie.Need-returns-4
 returns-4 c =
-    let z = c .before .before .before .before .is-size .ensures .so (not-false _ (c .before .before .before .if3 .left)) in
-    form-of _ (else-2 c .before .before .before .pre) (else-2 c .before .if1 .left) (else-2 c .if2 .left)
+    let z = after-is-size c .is-size .ensures .so (not-false _ (c .before .before .before .if3 .left)) in
+    form-of _ (at-start (after-is-size c) .pre) (after-is-size c .before .before .if1 .left) (after-is-size c .before .if2 .left)
     (chosen _ _ z (passed-by _ _ (λ e. omega (arith, e .0, area z, c .if4 .taken)) refl))
 
 mul-if5 : tie.Need-mul-if5
@@ -63,8 +63,8 @@ mul-if5 c =
     omega (
       arith,
       actions-few _
-          (at-start-from-else-4 (c .before) .pre)
-          (λ i. omega (arith, else-3 (c .before) .before .before .before .before .shared-slice-known .given i)),
+          (after-shared-slice-known (c .before) .before .pre)
+          (λ i. omega (arith, after-shared-slice-known (c .before) .shared-slice-known .given i)),
     )
 
 add-if5 : tie.Need-add-if5
@@ -74,8 +74,8 @@ add-if5 c =
       arith,
       area z,
       actions-few _
-          (at-start-from-else-4 (c .before .before) .pre)
-          (λ i. omega (arith, else-3 (c .before .before) .before .before .before .before .shared-slice-known .given i)),
+          (after-shared-slice-known (c .before .before) .before .pre)
+          (λ i. omega (arith, after-shared-slice-known (c .before .before) .shared-slice-known .given i)),
       c .before .before .if4 .left,
     )
 
@@ -86,8 +86,8 @@ add-if5-2 c =
       arith,
       area z,
       actions-few _
-          (at-start-from-else-4 (c .before .before) .pre)
-          (λ i. omega (arith, else-3 (c .before .before) .before .before .before .before .shared-slice-known .given i)),
+          (after-shared-slice-known (c .before .before) .before .pre)
+          (λ i. omega (arith, after-shared-slice-known (c .before .before) .shared-slice-known .given i)),
       c .before .before .if4 .left,
     )
 
@@ -95,7 +95,7 @@ returns-5 : tie.Need-returns-5
 returns-5 c =
     let z = else-3 (c .before .before .before) .before .is-size .ensures .so (not-false _ (else-3 (c .before .before .before) .if3 .left)) in
     form-of _
-    (at-start-from-else-4 (c .before .before .before) .pre)
+    (after-shared-slice-known (c .before .before .before) .before .pre)
     (else-3 (c .before .before .before) .before .before .before .if1 .left)
     (else-3 (c .before .before .before) .before .before .if2 .left)
     (chosen _ _ z (passed-by _ _ (λ e. omega (arith, e .1, c .if5 .taken)) refl))
@@ -105,22 +105,22 @@ well-formed-requires c κs = search needs
 
 returns-6 : tie.Need-returns-6
 returns-6 c =
-    let z = after-is-size (c .before) .is-size .ensures .so (not-false _ (else-3 (else-4 (c .before)) .if3 .left)) in
+    let z = after-is-size-from-well-formed (c .before) .is-size .ensures .so (not-false _ (else-3 (else-4 (c .before)) .if3 .left)) in
     form-of _
-    (at-start-from-else-4 (else-4 (c .before)) .pre)
-    (after-is-size (c .before) .before .before .if1 .left)
-    (after-is-size (c .before) .before .if2 .left)
+    (at-start (after-is-size-from-well-formed (c .before)) .pre)
+    (after-is-size-from-well-formed (c .before) .before .before .if1 .left)
+    (after-is-size-from-well-formed (c .before) .before .if2 .left)
     (chosen _ _ z (chosen _ _
     (omega (arith, else-4 (c .before) .if4 .left), omega (arith, c .before .before .if5 .left))
     (passed-by _ _ (λ e. false≢true (sym (not-true _ (c .if6 .taken)) ∙ c .before .well-formed .ensures ∙ e)) refl)))
 
 returns-7 : tie.Need-returns-7
 returns-7 c =
-    let z = after-is-size (c .before) .is-size .ensures .so (not-false _ (else-3 (else-4 (c .before)) .if3 .left)) in
+    let z = after-is-size-from-well-formed (c .before) .is-size .ensures .so (not-false _ (else-3 (else-4 (c .before)) .if3 .left)) in
     form-of _
-    (at-start-from-else-4 (else-4 (c .before)) .pre)
-    (after-is-size (c .before) .before .before .if1 .left)
-    (after-is-size (c .before) .before .if2 .left)
+    (at-start (after-is-size-from-well-formed (c .before)) .pre)
+    (after-is-size-from-well-formed (c .before) .before .before .if1 .left)
+    (after-is-size-from-well-formed (c .before) .before .if2 .left)
     (chosen _ _ z (chosen _ _
     (omega (arith, else-4 (c .before) .if4 .left), omega (arith, c .before .before .if5 .left))
     (chosen _ _ (sym (c .before .well-formed .ensures) ∙ not-false _ (c .if6 .left)) refl)))

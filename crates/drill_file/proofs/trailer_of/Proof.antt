@@ -7,6 +7,10 @@ use borrow.Author.Needs.{needs}
 use Rattle.drill_file.proofs.trailer_of.Statement.{statement}
 use Rattle.drill_file.proofs.trailer_of.Tie as tie
 
+-- The places that the answers look back to.
+abbrev after-shared-slice-known3 : tie.After-two-at5 → tie.After-shared-slice-known3
+after-shared-slice-known3 c = c .before .before .before .before .before
+
 sub-at : tie.Need-sub-at
 sub-at c = search needs
 
@@ -57,20 +61,31 @@ two-at-requires-5 c κs = search needs
 
 mul-t20 : tie.Need-mul-t20
 mul-t20 c =
-    let at = length (c .before .before .before .before .before .before .before .before .args .file .now) - 12 in
-    let byte = c .before .before .before .before .before .shared-slice-known3 .given in
+    let at = length (after-shared-slice-known3 c .before .before .before .args .file .now) - 12 in
+    let byte = after-shared-slice-known3 c .shared-slice-known3 .given in
     omega (arith, byte (at + 10), byte (at + 10 + 1), c .two-at5 .ensures)
 
 add-t21 : tie.Need-add-t21
 add-t21 c =
-    let at = length (c .before .before .before .before .before .before .before .before .args .file .now) - 12 in
-    let byte = c .before .before .before .before .before .shared-slice-known3 .given in
+    let at = length (after-shared-slice-known3 c .before .before .before .args .file .now) - 12 in
+    let byte = after-shared-slice-known3 c .shared-slice-known3 .given in
     omega (arith, byte (at + 8), byte (at + 8 + 1), byte (at + 10), byte (at + 10 + 1), c .before .two-at4 .ensures, c .two-at5 .ensures)
 
 returns : tie.Need-returns
 returns c =
-    let file = c .before .before .before .before .before .before .before .before .args .file .now in
-    trailer-read file (length file - 12) _ _ _ _ _ (c .before .before .before .before .two-at .ensures) (c .before .before .before .two-at2 .ensures) (c .before .before .two-at3 .ensures) (c .before .two-at4 .ensures) (c .two-at5 .ensures)
+    let file = after-shared-slice-known3 c .before .before .before .args .file .now in
+    trailer-read file
+    (length file - 12)
+    _
+    _
+    _
+    _
+    _
+    (c .before .before .before .before .two-at .ensures)
+    (c .before .before .before .two-at2 .ensures)
+    (c .before .before .two-at3 .ensures)
+    (c .before .two-at4 .ensures)
+    (c .two-at5 .ensures)
 
 pub trailer-of-spec : {M : Type 1} → statement M
 trailer-of-spec =

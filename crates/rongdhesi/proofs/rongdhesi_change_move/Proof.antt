@@ -4,6 +4,13 @@ use borrow.Author.Needs.{needs}
 use Rattle.rongdhesi.proofs.rongdhesi_change_move.Statement.{statement}
 use Rattle.rongdhesi.proofs.rongdhesi_change_move.Tie as tie
 
+-- The places that the answers look back to.
+abbrev after-change-move : tie.After-told → tie.After-change-move
+after-change-move c = c .before .before .before .before .before .before .before .before .before .before .before .before .before .before .before
+
+abbrev after-byte-of : tie.After-told → tie.After-byte-of
+after-byte-of c = after-change-move c .before .before .before .before .before .before .before .before
+
 byte-of-requires : tie.Need-byte-of-requires
 byte-of-requires c κs = search needs
 
@@ -35,7 +42,11 @@ same-length-7 : tie.Need-same-length-7
 same-length-7 c = search needs
 
 returns : tie.Need-returns
-returns c = record { called = c .before .before .before .before .before .before .before .before .before .before .before .before .before .before .before .change-move .result; promised = changed-by (c .before .before .before .before .before .before .before .before .before .before .before .before .before .before .before .before .before .before .before .before .before .before .before .byte-of .ensures) (c .before .before .before .before .before .before .before .before .before .before .before .before .before .before .before .change-move .ensures); told = c .told .ensures }
+returns c = record {
+  called = after-change-move c .change-move .result;
+  promised = changed-by (after-byte-of c .byte-of .ensures) (after-change-move c .change-move .ensures);
+  told = c .told .ensures;
+}
 
 pub rongdhesi-change-move-spec : {M : Type 1} → statement M
 rongdhesi-change-move-spec =

@@ -3,6 +3,10 @@ use borrow.Author.Needs.{needs}
 use Rattle.rongdhesi.proofs.rongdhesi_open.Statement.{statement}
 use Rattle.rongdhesi.proofs.rongdhesi_open.Tie as tie
 
+-- The places that the answers look back to.
+abbrev after-open : tie.After-told → tie.After-open
+after-open c = c .before .before .before .before .before .before .before .before .before .before .before .before .before .before .before
+
 open-requires : tie.Need-open-requires
 open-requires c κs = search needs
 
@@ -31,7 +35,7 @@ same-length-7 : tie.Need-same-length-7
 same-length-7 c = search needs
 
 returns : tie.Need-returns
-returns c = record { called = c .before .before .before .before .before .before .before .before .before .before .before .before .before .before .before .«open» .result; promised = c .before .before .before .before .before .before .before .before .before .before .before .before .before .before .before .«open» .ensures; told = c .told .ensures }
+returns c = record { called = after-open c .«open» .result; promised = after-open c .«open» .ensures; told = c .told .ensures }
 
 pub rongdhesi-open-spec : {M : Type 1} → statement M
 rongdhesi-open-spec =

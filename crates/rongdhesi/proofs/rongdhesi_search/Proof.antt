@@ -3,6 +3,11 @@ use borrow.Author.Needs.{needs}
 use Rattle.rongdhesi.proofs.rongdhesi_search.Statement.{statement}
 use Rattle.rongdhesi.proofs.rongdhesi_search.Tie as tie
 
+-- The places that the answers look back to.
+abbrev after-search : tie.After-search-told → tie.After-search
+after-search c =
+    c .before .before .before .before .before .before .before .before .before .before .before .before .before .before .before .before .before
+
 search-requires : tie.Need-search-requires
 search-requires c κs = search needs
 
@@ -34,7 +39,7 @@ same-length-8 : tie.Need-same-length-8
 same-length-8 c = search needs
 
 returns : tie.Need-returns
-returns c = record { called = c .before .before .before .before .before .before .before .before .before .before .before .before .before .before .before .before .before .search .result; promised = c .before .before .before .before .before .before .before .before .before .before .before .before .before .before .before .before .before .search .ensures; told = c .search-told .ensures }
+returns c = record { called = after-search c .search .result; promised = after-search c .search .ensures; told = c .search-told .ensures }
 
 pub rongdhesi-search-spec : {M : Type 1} → statement M
 rongdhesi-search-spec =
