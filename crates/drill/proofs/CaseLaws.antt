@@ -24,7 +24,10 @@ use Rattle.drill.specs.Cases.{given, cases}
 
 -- For every file of the list the definitions give what the list says.
 pub all-cases : map (λ c. given (c .file)) cases ≡ cases
-unfolding choose firstKey enter setRight better leastOver anew foundAnew relaxed relaxedAll lowered renewed renewedAll raised kindOf steppedBy stepped sooner soonest leastQueued goesOn nextCell runOn run blank fresh moveChanged handedOver takenOver parentCell wayFrom answerOf search shifts stays estimate isCost outBy intoBy upTo actionOf actionAt actionsFrom wellFormed isSize formNumber bytes digits spaced below isByte bytesHold edgeHolds edgesHold openNumber moveNumber turn played leftBy takenFrom takenBy fileNumber output cases ℕ-discrete decLt Dec·and
+unfolding choose firstKey enter setRight better leastOver anew foundAnew relaxed relaxedAll lowered renewed renewedAll raised kindOf steppedBy stepped
+    sooner soonest leastQueued goesOn nextCell runOn run blank fresh moveChanged handedOver takenOver parentCell wayFrom answerOf search shifts stays
+    estimate isCost outBy intoBy upTo actionOf actionAt actionsFrom wellFormed isSize formNumber bytes digits spaced below isByte bytesHold edgeHolds
+    edgesHold openNumber moveNumber turn played leftBy takenFrom takenBy fileNumber output cases ℕ-discrete decLt Dec·and
 all-cases = refl
 
 -- No move stays in a plan of 1 by 1.

@@ -46,5 +46,7 @@ play c σ T (ask ∷ l) = let o = search (corridor c) σ T in o .answer ∷ play
 
 pub one-drill : play 1 (opened 0 2) (fresh (corridor 1) 0 2) (ask ∷ change 255 ∷ ask ∷ change 5 ∷ ask ∷ hunter 1 ∷ ask ∷ target 0 ∷ ask ∷ target 1 ∷ ask ∷ [])
     ≡ way 2 2 (0 ∷ 1 ∷ 2 ∷ []) ∷ none-leads 0 ∷ way 6 0 (0 ∷ 1 ∷ 2 ∷ []) ∷ way 5 2 (1 ∷ 2 ∷ []) ∷ way 1 0 (1 ∷ 0 ∷ []) ∷ caught 1 ∷ []
-unfolding play corridor intoCell outOf door choose firstKey enter setRight better leastOver anew foundAnew relaxed relaxedAll lowered renewed renewedAll raised kindOf steppedBy stepped sooner soonest leastQueued goesOn nextCell isNone runOn run blank fresh moveChanged handedOver takenOver parentCell wayFrom answerOf search ℕ-discrete decLe decLt
+unfolding play corridor intoCell outOf door choose firstKey enter setRight better leastOver anew foundAnew relaxed relaxedAll lowered renewed
+    renewedAll raised kindOf steppedBy stepped sooner soonest leastQueued goesOn nextCell isNone runOn run blank fresh moveChanged handedOver
+    takenOver parentCell wayFrom answerOf search ℕ-discrete decLe decLt
 one-drill = refl

@@ -18,7 +18,8 @@ use Rattle.method.proofs.Notions.{EntryRight, Pick, Same, PutBack, Lowe
 use Rattle.method.proofs.Facts.{rhs-le}
 use Rattle.method.proofs.Keeping.{entry-same}
 use Rattle.method.proofs.LeastSums.{anew-least, least-cast}
-use Rattle.method.proofs.Entries.{withG-sized, withRhs-sized, withEntry-sized, enter-sized, setRight-sized, foundAnew-sized, key-finite, other-entry, Righted, leave-righted, enter-righted, righted, Reset, reset, anew-reset}
+use Rattle.method.proofs.Entries.{withG-sized, withRhs-sized, withEntry-sized, enter-sized, setRight-sized, foundAnew-sized}
+use Rattle.method.proofs.Entries.{key-finite, other-entry, Righted, leave-righted, enter-righted, righted, Reset, reset, anew-reset}
 
 -- ---- the lengths
 

@@ -212,7 +212,9 @@ module _ {s : Session} {t : Tables} (S : Sound s t) where
         answer-way f =
             ap (λ o. o .answer) search-is ∙ choose-yes (Bool-discrete (ran .ended) true) _ _ (ended laws (S .numbers))
             ∙ choose-no (ℕ-discrete (method.rhsAt (ran .tables) (b .target)) infinite) _ _ (λ e. f (ap (λ T. method.rhsAt T (b .target)) ran-is ∙ e))
-            ∙ ap (λ T. calls.way (method.rhsAt T (b .target) - method.rhsAt T (b .hunter)) (length (ran .steps)) (calls.wayFrom (huntTaken (graph s t) (session s) (core t)) (T .parent) (cells s) (b .target) [])) (sym ran-is)
+            ∙ ap (λ T. calls.way (method.rhsAt T (b .target) - method.rhsAt T (b .hunter)) (length (ran .steps))
+            (calls.wayFrom (huntTaken (graph s t) (session s) (core t)) (T .parent) (cells s) (b .target) []))
+            (sym ran-is)
             ∙ ap (λ k. calls.way (getD rhs₂ (b .target) 0 - getD rhs₂ (b .hunter) 0) k (calls.wayFrom (huntTaken (graph s t) (session s) (core t)) parent₂ (cells s) (b .target) [])) (sym steps-are)
             ∙ ap (λ l. calls.way (getD rhs₂ (b .target) 0 - getD rhs₂ (b .hunter) 0) steps l)
             (let q = led f in trail-way laws (q .1) (cells s) [] (omega (arith, q .2)) ∙ append-nil (q .0))

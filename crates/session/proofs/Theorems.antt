@@ -157,10 +157,16 @@ one-opening {a = a} {a′ = a′} {r = r} {r′ = r′} P Q = let x = at (ℕ-di
 -- ---- two results that are equal but for the order inside the heap
 
 pub alike-same : {count : ℕ} {t t′ : Tables} → t ≡ t′ → Alike count t t′
-alike-same {count} e = record { plan = ap (λ (x : Tables). x .plan) e; core = ap core e; named = λ x. (subst (λ (y : Tables). Names count y x) e, subst (λ (y : Tables). Names count y x) (sym e)); unused = λ i _. ap (λ (x : Tables). getD (x .list) i 0) e }
+alike-same {count} e = record {
+  plan = ap (λ (x : Tables). x .plan) e;
+  core = ap core e;
+  named = λ x. (subst (λ (y : Tables). Names count y x) e, subst (λ (y : Tables). Names count y x) (sym e));
+  unused = λ i _. ap (λ (x : Tables). getD (x .list) i 0) e;
+}
 
 -- The counts are equal too.
-pub alike : {width room count count′ : ℕ} (a a′ : Tables) → a .plan ≡ a′ .plan → core a ≡ core a′ → Heap width room count (a .k1) (a .k2) (a .place) (a .list) → Heap width room count′ (a′ .k1) (a′ .k2) (a′ .place) (a′ .list)
+pub alike : {width room count count′ : ℕ} (a a′ : Tables) → a .plan ≡ a′ .plan → core a ≡ core a′ → Heap width room count (a .k1) (a .k2) (a .place) (a .list)
+    → Heap width room count′ (a′ .k1) (a′ .k2) (a′ .place) (a′ .list)
     → (count ≡ count′) × Alike count a a′
 alike {width} {room} a a′ p c h h′ =
     let m : members (a .place) ≡ members (a′ .place) = ap (λ (T : method.Tables). T .queued) c in

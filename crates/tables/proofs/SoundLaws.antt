@@ -248,7 +248,10 @@ module _ (s : Session) (t : Tables) (z : Size (s .width) (s .height)) (fit : Fit
     }
       where
         turned : (m : Stays (s .width) (s .height) u d)
-            → MoveRule (s .origin) (byte (floor s (t .plan)) (entered (s .width) (entered (s .width) u d) (opposite d)) (opposite (opposite d))) (getD (t .g) (entered (s .width) (entered (s .width) u d) (opposite d)) 0) (entered (s .width) u d) (getD (t .rhs) (entered (s .width) u d) 0) (getD (t .parent) (entered (s .width) u d) 0) (opposite d + 1)
+            → MoveRule (s .origin)
+            (byte (floor s (t .plan)) (entered (s .width) (entered (s .width) u d) (opposite d)) (opposite (opposite d)))
+            (getD (t .g) (entered (s .width) (entered (s .width) u d) (opposite d)) 0)
+            (entered (s .width) u d) (getD (t .rhs) (entered (s .width) u d) 0) (getD (t .parent) (entered (s .width) u d) 0) (opposite d + 1)
             → MoveRule (s .origin) (byte (floor s (t .plan)) u d) (getD (t .g) u 0) (entered (s .width) u d) (getD (t .rhs) (entered (s .width) u d) 0) (getD (t .parent) (entered (s .width) u d) 0) (opposite d + 1)
         turned m R = rw (opposes d ld .back) at (rw (back-again (z .wide) ld m) at R)
 

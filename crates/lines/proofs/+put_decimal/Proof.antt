@@ -103,7 +103,9 @@ put-decimal-same-length-2 : (t : ℕ) → put-decimal-lts.Need-same-length-2 (
   put-decimal-below t,
   put-decimal.Post,
 ) (put-decimal-at t) put-decimal.Post
-put-decimal-same-length-2 t c = c .before .before .put-byte2 .ensures .long ∙ c .before .before .before .before .before .before .put-decimal .ensures .long
+put-decimal-same-length-2 t c =
+    let tens-put = c .before .before .before .before .before .before in
+    c .before .before .put-byte2 .ensures .long ∙ tens-put .put-decimal .ensures .long
 
 put-decimal-returns-2 : (t : ℕ) → put-decimal-lts.Need-returns-2 (
   put-byte-reads.Asked,
@@ -111,7 +113,10 @@ put-decimal-returns-2 : (t : ℕ) → put-decimal-lts.Need-returns-2 (
   put-decimal-below t,
   put-decimal.Post,
 ) (put-decimal-at t) put-decimal.Post
-put-decimal-returns-2 t c = put-last-digit (c .before .before .before .before .before .before .before .before .before .before .args .n) (omega arith) (omega arith) (c .before .before .before .before .before .before .put-decimal .ensures) (c .before .before .put-byte2 .ensures)
+put-decimal-returns-2 t c =
+    let tens-put = c .before .before .before .before .before .before in
+    let start = tens-put .before .before .before .before in
+    put-last-digit (start .args .n) (omega arith) (omega arith) (tens-put .put-decimal .ensures) (c .before .before .put-byte2 .ensures)
 
 pub +put-decimal-spec : {M : Type 1} → statement M
 +put-decimal-spec = close μ-put-decimal λ t. put-decimal-lts.spec (
