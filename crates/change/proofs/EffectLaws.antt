@@ -11,28 +11,28 @@ use Rattle.tables.specs.declared.Session.{Session}
 use Rattle.tables.specs.Lent.{floor}
 use Rattle.entries.specs.declared.Found.{Found}
 use Rattle.entries.specs.Became.{foundOf}
-use Rattle.change.specs.declared.Effect.the-variants.{Keeps, To}
-use Rattle.change.specs.Effects.{Asked, keeps, falls, rises}
+use Rattle.entries.specs.declared.Asked.the-variants.{Keeps, Takes}
+use Rattle.change.specs.Effects.{Asks, keeps, falls, rises}
 
 module _ {s : Session} {plan g rhs parent : List ℕ} {v k u old new : ℕ} where
-  pub asked-own : v ≡ s .origin → Asked s plan g rhs parent v k u old new Keeps
+  pub asked-own : v ≡ s .origin → Asks s plan g rhs parent v k u old new Keeps
   asked-own e = keeps (λ t. t .0 e)
 
-  pub asked-falls : {sum : ℕ} → v ≢ s .origin → new < old → sum ≡ getD g u 0 + new → sum < getD rhs v 0 → Asked s plan g rhs parent v k u old new (To sum k)
+  pub asked-falls : {sum : ℕ} → v ≢ s .origin → new < old → sum ≡ getD g u 0 + new → sum < getD rhs v 0 → Asks s plan g rhs parent v k u old new (Takes v (record { rhs = sum; parent = k }))
   asked-falls n f e l = rw e (falls n f (omega arith))
 
-  pub asked-high : {sum : ℕ} → new < old → sum ≡ getD g u 0 + new → getD rhs v 0 ≤ sum → Asked s plan g rhs parent v k u old new Keeps
+  pub asked-high : {sum : ℕ} → new < old → sum ≡ getD g u 0 + new → getD rhs v 0 ≤ sum → Asks s plan g rhs parent v k u old new Keeps
   asked-high f e l =
       keeps (λ t. ⊎-elim (λ (h : (new < old) × (getD g u 0 + new < getD rhs v 0)). omega (arith, h .1)) (λ (h : (old < new) × (getD parent v 0 ≡ k)). omega (arith, h .0)) (t .1))
 
-  pub asked-level : new ≡ old → Asked s plan g rhs parent v k u old new Keeps
+  pub asked-level : new ≡ old → Asks s plan g rhs parent v k u old new Keeps
   asked-level e =
       keeps (λ t. ⊎-elim (λ (h : (new < old) × (getD g u 0 + new < getD rhs v 0)). omega (arith, h .0)) (λ (h : (old < new) × (getD parent v 0 ≡ k)). omega (arith, h .0)) (t .1))
 
-  pub asked-other : old ≤ new → getD parent v 0 ≢ k → Asked s plan g rhs parent v k u old new Keeps
+  pub asked-other : old ≤ new → getD parent v 0 ≢ k → Asks s plan g rhs parent v k u old new Keeps
   asked-other f n =
       keeps (λ t. ⊎-elim (λ (h : (new < old) × (getD g u 0 + new < getD rhs v 0)). omega (arith, h .0)) (λ (h : (old < new) × (getD parent v 0 ≡ k)). n (h .1)) (t .1))
 
   pub asked-rises : {f : Found} → v ≢ s .origin → old ≤ new → new ≢ old → getD parent v 0 ≡ k → foundOf f ≡ method.anew (graphOf (floor s plan)) g v
-      → Asked s plan g rhs parent v k u old new (To (f .rhs) (f .parent))
-  asked-rises n f m e q = subst (λ x. Asked s plan g rhs parent v k u old new (To (x .sum) (x .code))) (sym q) (rises n (omega arith) e)
+      → Asks s plan g rhs parent v k u old new (Takes v f)
+  asked-rises n f m e q = subst (λ x. Asks s plan g rhs parent v k u old new (Takes v (record { rhs = x .sum; parent = x .code }))) (sym q) (rises n (omega arith) e)

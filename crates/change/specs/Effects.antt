@@ -9,8 +9,8 @@ use Rattle.plan.specs.Grid.{graphOf}
 use Rattle.tables.specs.declared.Session.{Session}
 use Rattle.tables.specs.Lent.{cells, floor}
 use Rattle.entries.specs.Aims.{Findable}
-use Rattle.change.specs.declared.Effect.{Effect}
-use Rattle.change.specs.declared.Effect.the-variants.{Keeps, To}
+use Rattle.entries.specs.declared.Asked.{Asked}
+use Rattle.entries.specs.declared.Asked.the-variants.{Keeps, Takes}
 
 -- The cell v is written: it is not the search's hunter, and the cost falls so that "g(u) + cost < rhs(v)", or rises where "u is its parent"; k is the parent code of the move at v.
 abbrev pub Touches : (hunter : ℕ) (g rhs parent : List ℕ) (v k u old new : ℕ) → Type 0
@@ -25,8 +25,8 @@ pub record Deciding (s : Session) (plan g rhs parent : List ℕ) (v u : ℕ) : T
   pub cell-in : u < cells s
 
 -- What a changed move asks of the cell v that it enters: to keep its numbers, to take the smaller sum with u as parent, or to be found anew. The plan is that after the change.
-pub data Asked (s : Session) (plan g rhs parent : List ℕ) (v k u old new : ℕ) : Effect → Type 0 where
-  keeps : (Touches (s .origin) g rhs parent v k u old new → ⊥) → Asked s plan g rhs parent v k u old new Keeps
-  falls : v ≢ s .origin → new < old → getD g u 0 + new < getD rhs v 0 → Asked s plan g rhs parent v k u old new (To (getD g u 0 + new) k)
+pub data Asks (s : Session) (plan g rhs parent : List ℕ) (v k u old new : ℕ) : Asked → Type 0 where
+  keeps : (Touches (s .origin) g rhs parent v k u old new → ⊥) → Asks s plan g rhs parent v k u old new Keeps
+  falls : v ≢ s .origin → new < old → getD g u 0 + new < getD rhs v 0 → Asks s plan g rhs parent v k u old new (Takes v (record { rhs = getD g u 0 + new; parent = k }))
   rises : v ≢ s .origin → old < new → getD parent v 0 ≡ k
-      → Asked s plan g rhs parent v k u old new (To (anew (graphOf (floor s plan)) g v .sum) (anew (graphOf (floor s plan)) g v .code))
+      → Asks s plan g rhs parent v k u old new (Takes v (record { rhs = anew (graphOf (floor s plan)) g v .sum; parent = anew (graphOf (floor s plan)) g v .code }))

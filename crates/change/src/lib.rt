@@ -1,5 +1,7 @@
 // The public call that changes a move, the same without the check for tables known to be sound, and what a changed move asks of the cell that it enters.
 use entries;
+use entries::Asked;
+use entries::Found;
 use plan;
 use session;
 use tables;
@@ -9,7 +11,7 @@ ghost use Rattle.plan.specs.Cells.{Size};
 ghost use Rattle.tables.specs.Lent.{given, before, after};
 ghost use Rattle.tables.specs.Sound.{Sound};
 ghost use Rattle.change.specs.Refusals.{MoveRules, Workable};
-ghost use Rattle.change.specs.Effects.{Deciding, Asked};
+ghost use Rattle.change.specs.Effects.{Deciding, Asks};
 ghost use Rattle.change.specs.Promise.{WorkedIn, Changes};
 
 // The number of the first rule that a move's new cost breaks, 0 if none.
@@ -33,12 +35,6 @@ fn move_refusal(s: tables::Session, u: usize, d: usize, cost: u8) -> u8
     0
 }
 
-// What a changed move asks of the cell that it enters: to keep its rhs and parent, or to take these.
-pub enum Effect {
-    Keeps,
-    To(u32, u8),
-}
-
 // A number and a cost, in 64 bits.
 fn sum_of(far: u32, cost: u8) -> usize
     ensures { λ r. ⌜ r ≡ far + cost ⌝ }
@@ -58,31 +54,37 @@ pub fn effect_of(
     u: usize,
     old: u8,
     new: u8,
-) -> Effect
+) -> Asked
     requires { ⌜ Deciding s (now plan) (now g) (now rhs) (now parent) v u ⌝ }
-    ensures { λ r. ⌜ Asked s (now (plan .entry)) (now (g .entry)) (now (rhs .entry)) (now (parent .entry)) v k u old new r ⌝ }
+    ensures { λ r. ⌜ Asks s (now (plan .entry)) (now (g .entry)) (now (rhs .entry)) (now (parent .entry)) v k u old new r ⌝ }
 {
     let far = g[u];
     let y = rhs[v];
     let p = parent[v];
     if v == s.origin {
-        return Effect::Keeps;
+        return Asked::Keeps;
     }
     if new < old {
         let sum = sum_of(far, new);
         if sum < y as usize {
-            return Effect::To(sum as u32, k);
+            return Asked::Takes(
+                v,
+                Found {
+                    rhs: sum as u32,
+                    parent: k,
+                },
+            );
         }
-        return Effect::Keeps;
+        return Asked::Keeps;
     }
     if new == old {
-        return Effect::Keeps;
+        return Asked::Keeps;
     }
     if p != k {
-        return Effect::Keeps;
+        return Asked::Keeps;
     }
     let f = entries::anew(s.width, s.height, plan, g, v);
-    Effect::To(f.rhs, f.parent)
+    Asked::Takes(v, f)
 }
 
 // Gives the move from cell u in direction d its new cost, and works it in at the cell entered. Returns the queue's count.
@@ -104,19 +106,17 @@ fn work_in(
     ensures { λ r. ⌜ WorkedIn s (before plan g rhs parent k1 k2 place list) u d cost r (after plan g rhs parent k1 k2 place list) ⌝ }
 {
     let v = plan::entered(s.width, u, d);
-    let k = ((d + 2) % 4 + 1) as u8;
+    let k = plan::back_code(d);
     let i = 4 * u + d;
     let old = plan[i];
     plan[i] = cost;
-    let effect = effect_of(s, plan, g, rhs, parent, v, k, u, old, cost);
-    let Effect::To(sum, code) = effect else {
+    let asked = effect_of(s, plan, g, rhs, parent, v, k, u, old, cost);
+    let Asked::Takes(cell, f) = asked else {
         return s.count;
     };
-    rhs[v] = sum;
-    parent[v] = code;
     let a = entries::aim_of(s);
-    let at = plan::spot_of(s.width, v);
-    entries::set_right(a, g, rhs, k1, k2, place, list, s.count, v, at)
+    let at = plan::spot_of(s.width, cell);
+    entries::take(a, g, rhs, parent, k1, k2, place, list, s.count, cell, at, f)
 }
 
 // Changes a move in sound tables: for a caller who knows that they are, so that the check is not paid. The promise is that of the call below.

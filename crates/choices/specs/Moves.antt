@@ -1,22 +1,21 @@
--- What one open move from the cell u of a step asks: nothing, or another rhs for the cell entered.
+-- What one open move from the cell u of a step asks of the cell that it enters.
 use mathlib.Core.Path.{_≡_}
+use mathlib.Core.Logic.{_⊎_}
 use mathlib.Core.List.{List}
-use Prim.Native.Nat.{ℕ, _+_, _≤_, _<_}
+use Prim.{Unit}
+use Prim.Native.Nat.{ℕ, _≤_, _<_}
 use lib.ListN.{length}
-use Rattle.method.specs.Numbers.{mostCost}
+use Rattle.method.specs.Numbers.{infinite}
 use Rattle.method.specs.Tables as method
 use Rattle.method.specs.Steps.{relaxedAll, renewedAll}
-use Rattle.plan.specs.Directions.{opposite}
 use Rattle.plan.specs.Cells.{Stays, entered}
 use Rattle.plan.specs.Grid.{outBy}
 use Rattle.plan.specs.declared.Spot.{Spot}
 use Rattle.entries.specs.declared.Aim.{Aim}
-use Rattle.entries.specs.Aims.{area, floor, hunt}
-use Rattle.entries.specs.Became.{Sited, KeyFits}
-use Rattle.choices.specs.declared.Relaxing.{Relaxing}
-use Rattle.choices.specs.declared.Relaxing.the-variants.{Nothing, To}
-use Rattle.choices.specs.declared.Child.{Child}
-use Rattle.choices.specs.declared.Child.the-variants.{Not, Is}
+use Rattle.entries.specs.declared.Asked.{Asked}
+use Rattle.entries.specs.declared.Asked.the-variants.{Keeps, Takes}
+use Rattle.entries.specs.Aims.{area, floor, hunt, mostG, mostRhs, Aimed, Small}
+use Rattle.entries.specs.Became.{Sited, KeyFits, obeyed}
 
 -- The cell s that the move from u in direction d enters.
 pub record Enters (a : Aim) (u d s : ℕ) : Type 0 where
@@ -24,24 +23,38 @@ pub record Enters (a : Aim) (u d s : ℕ) : Type 0 where
   pub cell : s ≡ entered (a .width) u d
   pub inside : s < area a
 
--- Lower, where v is the new g(u): s gets rhs `sum` and parent u, and its entry is set right.
-pub record RelaxesTo (a : Aim) (plan rhs : List ℕ) (v u d s sum : ℕ) : Type 0 where
-  pub enters : Enters a u d s
-  pub sum-le : sum ≤ v + mostCost
-  pub is : (T : method.Tables) → T .rhs ≡ rhs → relaxedAll (hunt a plan) v T (outBy (floor a plan) u d) ≡ method.setRight (hunt a plan) (method.withRhs T s sum (opposite d + 1)) s
+-- What is asked of it, if anything, can be done: it is this cell, and the sum leaves room.
+abbrev pub Fair : Aim → ℕ → ℕ → Asked → Type 0
+Fair a u d Keeps = Unit {0}
+Fair a u d (Takes s f) = Enters a u d s × ((f .rhs ≡ infinite) ⊎ (f .rhs ≤ mostRhs))
 
-abbrev pub Relaxes : Aim → List ℕ → List ℕ → ℕ → ℕ → ℕ → Relaxing → Type 0
-Relaxes a plan rhs v u d Nothing = (T : method.Tables) → T .rhs ≡ rhs → relaxedAll (hunt a plan) v T (outBy (floor a plan) u d) ≡ T
-Relaxes a plan rhs v u d (To s sum) = RelaxesTo a plan rhs v u d s sum
+-- A direction can be looked in from a cell of the plan.
+pub record Leaving (a : Aim) (plan : List ℕ) (u d : ℕ) : Type 0 where
+  pub aimed : Aimed a plan
+  pub inside : u < area a
+  pub direction : d < 4
 
--- Raise: s has parent u and is found anew.
-pub record RenewsAt (a : Aim) (plan parent : List ℕ) (u d s : ℕ) : Type 0 where
-  pub enters : Enters a u d s
-  pub is : (T : method.Tables) → T .parent ≡ parent → renewedAll (hunt a plan) T (outBy (floor a plan) u d) ≡ method.foundAnew (hunt a plan) T s
+-- Lower, where v is the new g(u): it leaves room for a cost.
+pub record Relaxing (a : Aim) (plan rhs : List ℕ) (v u d : ℕ) : Type 0 where
+  pub leaving : Leaving a plan u d
+  pub long-rhs : length rhs ≡ area a
+  pub room : v ≤ mostG
 
-abbrev pub Renews : Aim → List ℕ → List ℕ → ℕ → ℕ → Child → Type 0
-Renews a plan parent u d Not = (T : method.Tables) → T .parent ≡ parent → renewedAll (hunt a plan) T (outBy (floor a plan) u d) ≡ T
-Renews a plan parent u d (Is s) = RenewsAt a plan parent u d s
+-- What is asked is what the method does.
+pub record Relaxes (a : Aim) (plan rhs : List ℕ) (v u d : ℕ) (r : Asked) : Type 0 where
+  pub fair : Fair a u d r
+  pub is : (T : method.Tables) → T .rhs ≡ rhs → relaxedAll (hunt a plan) v T (outBy (floor a plan) u d) ≡ obeyed (hunt a plan) T r
+
+-- Raise: a cell can be found anew.
+pub record Renewing (a : Aim) (plan g parent : List ℕ) (u d : ℕ) : Type 0 where
+  pub leaving : Leaving a plan u d
+  pub long-g : length g ≡ area a
+  pub small-g : Small mostG g
+  pub long-parent : length parent ≡ area a
+
+pub record Renews (a : Aim) (plan g parent : List ℕ) (u d : ℕ) (r : Asked) : Type 0 where
+  pub fair : Fair a u d r
+  pub is : (T : method.Tables) → T .g ≡ g → T .parent ≡ parent → renewedAll (hunt a plan) T (outBy (floor a plan) u d) ≡ obeyed (hunt a plan) T r
 
 -- A table.
 abbrev pub Numbers : Type 0

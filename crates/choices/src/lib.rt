@@ -1,72 +1,63 @@
 // What a step of a search chooses, reading the tables and writing nothing: the next cell, whether it is put back, and what each of its open moves does.
 use entries;
 use entries::Aim;
+use entries::Asked;
+use entries::Found;
 use plan;
 use plan::Reach;
 use plan::Spot;
 use queue;
 use tables;
 ghost use mathlib.Core.Path.{_≡_};
-ghost use Prim.Native.Nat.{_+_, _<_, _≤_};
 ghost use lib.Dec.{ltb};
-ghost use lib.ListN.{length};
 ghost use Rattle.method.specs.Tables.{keyNumber, firstKey, storedKey, calculatedKey};
 ghost use Rattle.tables.specs.Lent.{tables, core};
-ghost use Rattle.entries.specs.Aims.{area, hunt, mostG, Aimed};
-ghost use Rattle.choices.specs.Moves.{Relaxes, Renews, Numbers, Keyed};
+ghost use Rattle.entries.specs.Aims.{hunt};
+ghost use Rattle.choices.specs.Moves.{Relaxing, Relaxes, Renewing, Renews, Numbers, Keyed};
 ghost use Rattle.choices.specs.Next.{Goal, Choosing, Chosen};
 
-// What an open move from u does in "lower": nothing, or a new rhs for the cell entered.
-pub enum Relaxing {
-    Nothing,
-    To(usize, u32),
-}
-
-// Decides it, where v is the new g of u.
-pub fn relaxation(a: Aim, plan: &[u8], rhs: &[u32], v: u32, u: usize, d: usize) -> Relaxing
-    requires { ⌜ Aimed a (now plan) ⌝ }
-    requires { ⌜ length (now rhs) ≡ area a ⌝ }
-    requires { ⌜ (u < area a) × (d < 4) × (v ≤ mostG) ⌝ }
+// What an open move from u asks in "lower" of the cell that it enters, where v is the new g of u: to take a smaller sum.
+pub fn relaxation(a: Aim, plan: &[u8], rhs: &[u32], v: u32, u: usize, d: usize) -> Asked
+    requires { ⌜ Relaxing a (now plan) (now rhs) v u d ⌝ }
     ensures { λ r. ⌜ Relaxes a (now (plan .entry)) (now (rhs .entry)) v u d r ⌝ }
 {
     let reach = plan::move_out(a.width, a.height, plan, u, d);
-    let Reach::To(s, cost) = reach else {
-        return Relaxing::Nothing;
+    let Reach::To(code, s, cost) = reach else {
+        return Asked::Keeps;
     };
     if s == a.hunter {
-        return Relaxing::Nothing;
+        return Asked::Keeps;
     }
     let sum = v + cost as u32;
     if rhs[s] <= sum {
-        return Relaxing::Nothing;
+        return Asked::Keeps;
     }
-    Relaxing::To(s, sum)
+    Asked::Takes(
+        s,
+        Found {
+            rhs: sum,
+            parent: code,
+        },
+    )
 }
 
-// Is the cell that an open move from u enters one whose parent is u?
-pub enum Child {
-    Not,
-    Is(usize),
-}
-
-// Decides it.
-pub fn child_by(a: Aim, plan: &[u8], parent: &[u8], u: usize, d: usize) -> Child
-    requires { ⌜ Aimed a (now plan) ⌝ }
-    requires { ⌜ length (now parent) ≡ area a ⌝ }
-    requires { ⌜ (u < area a) × (d < 4) ⌝ }
-    ensures { λ r. ⌜ Renews a (now (plan .entry)) (now (parent .entry)) u d r ⌝ }
+// What it asks in "raise": a cell whose parent is u is found anew.
+pub fn renewal(a: Aim, plan: &[u8], g: &[u32], parent: &[u8], u: usize, d: usize) -> Asked
+    requires { ⌜ Renewing a (now plan) (now g) (now parent) u d ⌝ }
+    ensures { λ r. ⌜ Renews a (now (plan .entry)) (now (g .entry)) (now (parent .entry)) u d r ⌝ }
 {
     let reach = plan::move_out(a.width, a.height, plan, u, d);
-    let Reach::To(s, _) = reach else {
-        return Child::Not;
+    let Reach::To(code, s, _) = reach else {
+        return Asked::Keeps;
     };
     if s == a.hunter {
-        return Child::Not;
+        return Asked::Keeps;
     }
-    if parent[s] != ((d + 2) % 4 + 1) as u8 {
-        return Child::Not;
+    if parent[s] != code {
+        return Asked::Keeps;
     }
-    Child::Is(s)
+    let f = entries::anew(a.width, a.height, plan, g, s);
+    Asked::Takes(s, f)
 }
 
 // Is the key (a1, a2) below the key (b1, b2)?

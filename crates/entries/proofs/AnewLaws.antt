@@ -1,6 +1,6 @@
 -- The first least sum, direction by direction.
 use mathlib.Core.Path.{_≡_, refl, sym, ap, _∙_}
-use mathlib.Core.Logic.{_⊎_, ⊎-elim}
+use mathlib.Core.Logic.{⊎-elim}
 use mathlib.Core.List.{List, [], _∷_}
 use Prim.Native.Nat.{ℕ, _+_, _≤_, _<_}
 use native.Mathlib.Numerals.{add-one}
@@ -8,7 +8,7 @@ use native.Mathlib.Omega.{arith}
 use native.Mathlib.Decide.{decLt}
 use lib.ListN.{getD}
 use Rattle.decide.proofs.ChooseLaws.{choose-yes, choose-no}
-use Rattle.method.specs.Numbers.{infinite}
+use Rattle.method.specs.Numbers.{infinite, mostCost}
 use Rattle.method.specs.Graph.{Move, move}
 use Rattle.method.specs.Tables.{Found, found, better, leastOver}
 use Rattle.method.proofs.Appending.{leastOver-append}
@@ -21,11 +21,11 @@ use Rattle.plan.proofs.GridLaws.{into-reach, open-from-in}
 use Rattle.entries.specs.Aims.{Small}
 
 -- what an answer about a direction says
-pub said-shut : {r : Reach} (k : ℕ) {l : List Move} → r ≡ Shut → listed k r ≡ l → [] ≡ l
-said-shut k e q = ap (listed k) (sym e) ∙ q
+pub said-shut : {r : Reach} {l : List Move} → r ≡ Shut → listed r ≡ l → [] ≡ l
+said-shut e q = ap listed (sym e) ∙ q
 
-pub said-to : {r : Reach} (k : ℕ) {v c : ℕ} {l : List Move} → r ≡ To v c → listed k r ≡ l → move k v c ∷ [] ≡ l
-said-to k e q = ap (listed k) (sym e) ∙ q
+pub said-to : {r : Reach} {k v c : ℕ} {l : List Move} → r ≡ To k v c → listed r ≡ l → move k v c ∷ [] ≡ l
+said-to e q = ap listed (sym e) ∙ q
 
 pub looked-shut : (g : List ℕ) (f : Found) {l : List Move} → [] ≡ l → f ≡ leastOver g f l
 unfolding leastOver
@@ -40,8 +40,8 @@ unfolding leastOver better
 looked-taken g f {k} {v} {c} e h = rw (← e) (sym (choose-yes (decLt (getD g v 0 + c) (f .sum)) (found (getD g v 0 + c) k) f h))
 
 -- the neighbour of an open move, and its cost
-pub neighbour-in : (p : Plan) → Obeys p → (s d : ℕ) {v c : ℕ} → d < 4 → move (d + 1) v c ∷ [] ≡ intoBy p s d → (v < cells p) × (c ≤ 250)
-neighbour-in p O s d {v} {c} l e = let o = into-reach p (O .size .wide) s v c d l e in (open-from-in p (O .size .wide) o, o .is-cost .1)
+pub neighbour-in : (p : Plan) → Obeys p → (s d : ℕ) {k v c : ℕ} → d < 4 → move k v c ∷ [] ≡ intoBy p s d → (v < cells p) × (c ≤ mostCost)
+neighbour-in p O s d l e = let o = into-reach p (O .size .wide) s d l e in (open-from-in p (O .size .wide) o, o .is-cost .1)
 
 -- a finite g leaves room for a cost
 pub finite-small : (l : List ℕ) {bound : ℕ} → Small bound l → (k : ℕ) → (getD l k 0 ≡ infinite → ⊥) → getD l k 0 ≤ bound

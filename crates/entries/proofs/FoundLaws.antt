@@ -11,15 +11,16 @@ use Rattle.method.specs.Numbers.{infinite, mostEstimate}
 use Rattle.method.specs.Graph.{GraphLaws}
 use Rattle.method.specs.Tables as method
 use Rattle.method.proofs.LeastSums.{anew-least}
-use Rattle.plan.specs.Costs.{Plan, Obeys}
+use Rattle.plan.specs.Costs.{Plan, planOf, Obeys}
 use Rattle.plan.specs.Grid.{graphOf}
 use Rattle.plan.specs.declared.Spot.{Spot}
 use Rattle.plan.proofs.GridLaws.{graph-laws}
-use Rattle.tables.specs.Lent.{tables, core}
+use Rattle.tables.specs.Lent.{Tables, tables}
 use Rattle.entries.specs.declared.Aim.{Aim}
 use Rattle.entries.specs.declared.Found.{Found}
+use Rattle.entries.specs.declared.Asked.the-variants.{Takes}
 use Rattle.entries.specs.Aims.{area, floor, hunt, mostG, mostRhs, mostKm, Small, Findable, Ready, ReadyAt}
-use Rattle.entries.specs.Became.{Became, Sited, KeyFits, Entering, Entered, foundOf}
+use Rattle.entries.specs.Became.{Became, Sited, Entering, obeyed, Taking, foundOf}
 
 -- A number set in a table of small numbers.
 pub small-set : (l : List ℕ) (i x : ℕ) {bound : ℕ} → i < length l → (x ≡ infinite) ⊎ (x ≤ bound) → Small bound l → Small bound (set l i x)
@@ -110,17 +111,24 @@ ready-set {cell = cell} {rhs = rhs} {parent = parent} r p S h =
       stands = S .stands;
     }
 
--- A cell found anew: what `anew` answered was set, and the entry set right.
-pub became-anew : {a : Aim} (cell : ℕ) {count : ℕ} {f : Found} {plan : List ℕ} (g rhs parent k1 k2 place list : List ℕ) {k1′ k2′ place′ list′ : List ℕ}
-    → foundOf f ≡ method.anew (graphOf (floor a plan)) g cell
-    → Entered a cell g (set rhs cell (f .rhs)) k1 k2 place list count k1′ k2′ place′ list′
-    → Became a count (tables plan g (set rhs cell (f .rhs)) (set parent cell (f .parent)) k1′ k2′ place′ list′) (method.foundAnew (hunt a plan) (core (tables plan g rhs parent k1 k2 place list)) cell)
-unfolding method.foundAnew
-became-anew {a} cell {count} {f} {plan} g rhs parent k1 k2 place list e E =
-    let B = E plan (set parent cell (f .parent)) in
-    record { is = B .is ∙ ap (λ x. method.setRight (hunt a plan) (method.withRhs (core (tables plan g rhs parent k1 k2 place list)) cell (x .sum) (x .code)) cell) e; heap = B .heap }
+-- .. so the cell can take it.
+pub taking : {a : Aim} {count cell : ℕ} {at : Spot} {f : Found} {plan g rhs parent k1 k2 place list : List ℕ} → ReadyAt a mostRhs count cell at (tables plan g rhs parent k1 k2 place list)
+    → (f .rhs ≡ infinite) ⊎ (f .rhs ≤ mostRhs) → Taking a count cell at f g rhs parent k1 k2 place list
+taking {f = f} S h = record { entering = entering (ready-set (f .rhs) (f .parent) S h); long-parent = S .ready .held .sized .parent }
 
-pub found-small : {a : Aim} {f : Found} {plan g rhs parent k1 k2 place list : List ℕ} {count : ℕ} (cell : ℕ) → Ready a mostRhs count (tables plan g rhs parent k1 k2 place list)
-    → foundOf f ≡ method.anew (graphOf (floor a plan)) g cell → (f .rhs ≡ infinite) ⊎ (f .rhs ≤ mostRhs)
-found-small {a} {plan = plan} {g = g} cell R e =
-    subst (λ x. (x ≡ infinite) ⊎ (x ≤ mostRhs)) (sym (ap (λ x. x .sum) e)) (anew-small (floor a plan) (R .aimed .obeys) g (R .small-g) cell)
+pub rhs-long : {a : Aim} {count cell : ℕ} {at : Spot} {f : Found} {g rhs parent k1 k2 place list : List ℕ} → Taking a count cell at f g rhs parent k1 k2 place list → cell < length rhs
+rhs-long {cell = cell} {f = f} {rhs = rhs} T = omega (arith, T .entering .sited .inside, T .entering .sited .long-rhs, length-set rhs cell (f .rhs))
+
+pub became-as : {a : Aim} {count : ℕ} {t : Tables} {m m′ : method.Tables} → Became a count t m → m ≡ m′ → Became a count t m′
+became-as B e = record { is = B .is ∙ e; heap = B .heap }
+
+-- A cell found anew takes what `anew` answered.
+pub anew-is : (a : Aim) {f : Found} (plan : List ℕ) (T : method.Tables) (cell : ℕ) → foundOf f ≡ method.anew (graphOf (floor a plan)) (T .g) cell
+    → obeyed (hunt a plan) T (Takes cell f) ≡ method.foundAnew (hunt a plan) T cell
+unfolding method.foundAnew
+anew-is a plan T cell e = ap (λ x. method.setRight (hunt a plan) (method.withRhs T cell (x .sum) (x .code)) cell) e
+
+pub found-small : {width height cell : ℕ} {f : Found} {plan g : List ℕ} → Findable width height plan g cell → foundOf f ≡ method.anew (graphOf (planOf width height plan)) g cell
+    → (f .rhs ≡ infinite) ⊎ (f .rhs ≤ mostRhs)
+found-small {width} {height} {cell} {plan = plan} {g = g} F e =
+    subst (λ x. (x ≡ infinite) ⊎ (x ≤ mostRhs)) (sym (ap (λ x. x .sum) e)) (anew-small (planOf width height plan) (F .obeys) g (F .small-g) cell)

@@ -16,9 +16,9 @@ ghost use Rattle.plan.specs.Costs.{planOf};
 ghost use Rattle.plan.specs.Grid.{intoBy, graphOf};
 ghost use Rattle.plan.specs.Reached.{Placed, between};
 ghost use Rattle.tables.specs.Lent.{core, given, before, after, Fits};
-ghost use Rattle.entries.specs.Aims.{area, floor, hunt, AimOf, Aimed, Small, mostRhs, Findable, ReadyAt};
+ghost use Rattle.entries.specs.Aims.{area, floor, hunt, AimOf, Aimed, mostRhs, Findable, ReadyAt};
 ghost use Rattle.entries.specs.Begin.{Openable, begun, Opened};
-ghost use Rattle.entries.specs.Became.{Became, Entering, Entered, foundOf};
+ghost use Rattle.entries.specs.Became.{Became, Entering, Entered, Taking, Taken, foundOf};
 
 // What a search goes by: the plan's size, the hunter and the target taken over, the target's row and column, and km.
 pub struct Aim {
@@ -96,10 +96,40 @@ pub fn set_right(
     count
 }
 
-// A least sum so far, and the parent byte of the move that gives it.
+// A sum, and the parent byte of the move that gives it.
 pub struct Found {
     pub rhs: u32,
     pub parent: u8,
+}
+
+// What a move asks of the cell that it enters: to keep its rhs and parent, or that this cell takes these.
+pub enum Asked {
+    Keeps,
+    Takes(usize, Found),
+}
+
+// A cell takes a sum and its parent, and its entry is set right. Returns the queue's count.
+pub fn take(
+    a: Aim,
+    g: &[u32],
+    rhs: &mut [u32],
+    parent: &mut [u8],
+    k1: &mut [u32],
+    k2: &mut [u32],
+    place: &mut [u16],
+    list: &mut [u16],
+    count: usize,
+    cell: usize,
+    at: Spot,
+    f: Found,
+) -> usize
+    requires { ⌜ Taking a count cell at f (now g) (now rhs) (now parent) (now k1) (now k2) (now place) (now list) ⌝ }
+    ensures { λ r. ⌜ Taken a cell f (now (g .entry)) (now (rhs .entry)) (now (parent .entry)) (now (k1 .entry)) (now (k2 .entry)) (now (place .entry)) (now (list .entry)) r (now (rhs .exit)) (now (parent .exit)) (now (k1 .exit)) (now (k2 .exit)) (now (place .exit)) (now (list .exit)) ⌝ }
+    ensures { λ r. ⌜ EntryKept count (now (k1 .entry)) (now (k2 .entry)) (now (place .entry)) (now (list .entry)) r (now (k1 .exit)) (now (k2 .exit)) (now (place .exit)) (now (list .exit)) ⌝ }
+{
+    rhs[cell] = f.rhs;
+    parent[cell] = f.parent;
+    set_right(a, g, rhs, k1, k2, place, list, count, cell, at)
 }
 
 // One more neighbour is looked at: its move is taken if it gives a smaller sum.
@@ -116,7 +146,7 @@ fn looked_at(
     ensures { λ r. ⌜ foundOf r ≡ leastOver (now (g .entry)) (foundOf best) (intoBy (planOf width height (now (plan .entry))) s d) ⌝ }
 {
     let reach = plan::move_into(width, height, plan, s, d);
-    let Reach::To(u, cost) = reach else {
+    let Reach::To(code, u, cost) = reach else {
         return best;
     };
     let far = g[u];
@@ -129,7 +159,7 @@ fn looked_at(
     }
     Found {
         rhs: sum,
-        parent: (d + 1) as u8,
+        parent: code,
     }
 }
 
@@ -165,13 +195,10 @@ pub fn found_anew(
 ) -> usize
     requires { ⌜ ReadyAt a mostRhs count cell at (given plan g rhs parent k1 k2 place list) ⌝ }
     ensures { λ r. ⌜ Became a r (after plan g rhs parent k1 k2 place list) (foundAnew (hunt a (now (plan .entry))) (core (before plan g rhs parent k1 k2 place list)) cell) ⌝ }
-    ensures { λ _. ⌜ Small mostRhs (now (rhs .exit)) ⌝ }
     ensures { λ r. ⌜ EntryKept count (now (k1 .entry)) (now (k2 .entry)) (now (place .entry)) (now (list .entry)) r (now (k1 .exit)) (now (k2 .exit)) (now (place .exit)) (now (list .exit)) ⌝ }
 {
     let f = anew(a.width, a.height, plan, g, cell);
-    rhs[cell] = f.rhs;
-    parent[cell] = f.parent;
-    set_right(a, g, rhs, k1, k2, place, list, count, cell, at)
+    take(a, g, rhs, parent, k1, k2, place, list, count, cell, at, f)
 }
 
 // Every number of a table of 32 bits becomes v.

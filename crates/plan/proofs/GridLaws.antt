@@ -118,12 +118,17 @@ module _ (p : Plan) (wide : 1 ≤ p .width) where
       up-to-has (outBy p w) 4 (move k s c) d (opposes (o .direction) (o .small) .small)
       (rw e (one-has (stays (p .width) (p .height) w d) (isCost b) (move (opposite d + 1) v b) m (rw (o .costs) at (o .is-cost))))
 
-  -- the one open move of a direction
-  pub into-reach : (s v c d : ℕ) → d < 4 → move (d + 1) v c ∷ [] ≡ intoBy p s d → Open p s (d + 1) v c
-  into-reach s v c d l e = into-by-is s (d + 1) v c d l (subst (List·Memᴰ (move (d + 1) v c)) e (List·Memᴰ·head refl))
+  -- the one open move of a direction, into s and out of u
+  pub into-reach : (s d : ℕ) {k v c : ℕ} → d < 4 → move k v c ∷ [] ≡ intoBy p s d → Open p s k v c
+  into-reach s d {k} {v} {c} l e = into-by-is s k v c d l (subst (List·Memᴰ (move k v c)) e (List·Memᴰ·head refl))
 
-  pub out-reach : (u v c d : ℕ) → d < 4 → move (opposite d + 1) v c ∷ [] ≡ outBy p u d → Open p v (opposite d + 1) u c
-  out-reach u v c d l e = out-by-is v (opposite d + 1) u c d l (subst (List·Memᴰ (move (opposite d + 1) v c)) e (List·Memᴰ·head refl))
+  pub out-reach : (u d : ℕ) {k v c : ℕ} → move k v c ∷ [] ≡ outBy p u d → Stays (p .width) (p .height) u d × IsCost c × (v ≡ entered (p .width) u d)
+  unfolding outBy
+  out-reach u d {k} {v} {c} e =
+      let x = move (opposite d + 1) (entered (p .width) u d) (byte p u d) in
+      let h = one-is (stays (p .width) (p .height) u d) (isCost (byte p u d)) x (move k v c) (subst (List·Memᴰ (move k v c)) e (List·Memᴰ·head refl)) in
+      let ec : c ≡ byte p u d = ap (λ m. m .cost) (h .2) in
+      (h .0, rw ec (h .1), ap (λ m. m .cell) (h .2))
 
   -- an open move comes from a cell of the plan
   pub open-from-in : {s k w c : ℕ} → Open p s k w c → w < cells p

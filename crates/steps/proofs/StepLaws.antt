@@ -1,7 +1,7 @@
 -- The steps over the tables are the method's.
 use mathlib.Core.Path.{_≡_, refl, sym, ap, subst, _∙_}
 use mathlib.Core.Bool.{Bool, true, false}
-use mathlib.Core.Logic.{_⊎_, inr, ⊎-elim, _≢_}
+use mathlib.Core.Logic.{_⊎_, ⊎-elim, _≢_}
 use mathlib.Core.List.{List}
 use Prim.Native.Nat.{ℕ, _+_, _≤_, _<_}
 use native.Mathlib.Numerals.{add-one}
@@ -12,7 +12,7 @@ use lib.ListN.{getD, set, length, length-set}
 use lib.Seq.{getD-set-same}
 use borrow.Author.Tests.{ltb-true, ltb-false}
 use Rattle.decide.proofs.ChooseLaws.{choose-yes, choose-no}
-use Rattle.method.specs.Numbers.{infinite, mostCost}
+use Rattle.method.specs.Numbers.{infinite}
 use Rattle.method.specs.Graph.{Move, Hunt}
 use Rattle.method.specs.Tables as method
 use Rattle.method.specs.Steps.{relaxedAll, lowered, renewedAll, raised, put-back, lower, raise, kindOf, steppedBy, stepped}
@@ -26,22 +26,15 @@ use Rattle.plan.proofs.MoveLaws.{placed, moved-at}
 use Rattle.tables.specs.Lent.{Tables, tables, core}
 use Rattle.entries.specs.declared.Aim.{Aim}
 use Rattle.entries.specs.Aims.{area, floor, hunt, mostG, mostRhs, Held, Small, Ready, ReadyAt}
-use Rattle.entries.specs.Became.{Became, Entering}
-use Rattle.entries.proofs.FoundLaws.{small-set, small-more, key-fits, sited, entering}
-use Rattle.choices.specs.declared.Relaxing.{Relaxing}
-use Rattle.choices.specs.declared.Relaxing.the-variants.{Nothing, To}
-use Rattle.choices.specs.declared.Child.{Child}
-use Rattle.choices.specs.declared.Child.the-variants.{Not, Is}
-use Rattle.choices.specs.Moves.{Enters, RelaxesTo, Relaxes, RenewsAt, Renews, Keyed}
-use Rattle.steps.specs.Ready.{Facing, Lowering, Stepping}
+use Rattle.entries.specs.Became.{Became, Entering, obeyed, Taking, Taken}
+use Rattle.entries.proofs.FoundLaws.{small-set, small-more, key-fits, sited, entering, taking, became-as}
+use Rattle.entries.specs.declared.Found.{Found}
+use Rattle.entries.specs.declared.Asked.{Asked}
+use Rattle.entries.specs.declared.Asked.the-variants.{Keeps, Takes}
+use Rattle.choices.specs.Moves.{Enters, Fair, Leaving, Relaxing, Renewing, Keyed}
+use Rattle.steps.specs.Ready.{Facing, Obeying, Obeyed, Lowering, Stepping}
 
 -- ---- what holds of the tables after an inner function
-
-pub became-as : {a : Aim} {count : ℕ} {t : Tables} {m m′ : method.Tables} → Became a count t m → m ≡ m′ → Became a count t m′
-became-as B e = record { is = B .is ∙ e; heap = B .heap }
-
-pub became-same : {a : Aim} {count : ℕ} {t : Tables} {m : method.Tables} → Held a count t → m ≡ core t → Became a count t m
-became-same H e = record { is = sym e; heap = H .heap }
 
 pub became-held : {a : Aim} {count : ℕ} {t : Tables} {m : method.Tables} → method.Sized (area a) m → Became a count t m → Held a count t
 became-held {a} z B = record { sized = subst (method.Sized (area a)) (sym (B .is)) z; heap = B .heap }
@@ -69,6 +62,24 @@ g-set {u = u} {g = g} {rhs = rhs} v S h =
       stands = S .stands;
     }
 
+-- ---- one direction of a step
+
+pub facing : {a : Aim} {most count n u d : ℕ} {at : Spot} {t t′ : Tables} → ReadyAt a most count u at t → Ready a mostRhs n t′ → d < 4 → Facing a n u at d t′
+facing S R l = record { here = record { ready = R; inside = S .inside; stands = S .stands }; direction = l }
+
+module _ {a : Aim} {count u d : ℕ} {at : Spot} {plan g rhs parent k1 k2 place list : List ℕ} (F : Facing a count u at d (tables plan g rhs parent k1 k2 place list)) where
+  leaving : Leaving a plan u d
+  leaving = record { aimed = F .here .ready .aimed; inside = F .here .inside; direction = F .direction }
+
+  pub relaxing : {v : ℕ} → v ≤ mostG → Relaxing a plan rhs v u d
+  relaxing l = record { leaving = leaving; long-rhs = F .here .ready .held .sized .rhs; room = l }
+
+  pub renewing : Renewing a plan g parent u d
+  renewing = record { leaving = leaving; long-g = F .here .ready .held .sized .g; small-g = F .here .ready .small-g; long-parent = F .here .ready .held .sized .parent }
+
+  pub obeying : {r : Asked} → Fair a u d r → Obeying a count at d r g rhs parent k1 k2 place list
+  obeying f = record { plan = plan; u = u; facing = F; fair = f }
+
 -- ---- the cell entered
 
 -- the spot moved to can be computed, and is the cell's
@@ -86,21 +97,33 @@ module _ {a : Aim} {count u d s : ℕ} {at : Spot} {t : Tables} (F : Facing a co
     stands = subst (λ x. At (a .width) x to) (sym (E .cell)) (moved-at {to = to} (F .here .ready .aimed .obeys .size .wide) (F .here .stands) (E .stays-in) e);
   }
 
-pub asked-nothing : (a : Aim) (plan rhs : List ℕ) (v u d : ℕ) {r : Relaxing} → r ≡ Nothing → Relaxes a plan rhs v u d r → (T : method.Tables) → T .rhs ≡ rhs → relaxedAll (hunt a plan) v T (outBy (floor a plan) u d) ≡ T
-asked-nothing a plan rhs v u d e R = subst (Relaxes a plan rhs v u d) e R
+-- ---- what is asked of it is done
 
-pub asked-to : (a : Aim) (plan rhs : List ℕ) (v u d : ℕ) {s sum : ℕ} {r : Relaxing} → r ≡ To s sum → Relaxes a plan rhs v u d r → RelaxesTo a plan rhs v u d s sum
-asked-to a plan rhs v u d e R = subst (Relaxes a plan rhs v u d) e R
+module _ {a : Aim} {count : ℕ} {at : Spot} {d : ℕ} {r : Asked} {g rhs parent k1 k2 place list : List ℕ} (O : Obeying a count at d r g rhs parent k1 k2 place list) where
+  pub obeyed-kept : r ≡ Keeps → Obeyed a r g rhs parent k1 k2 place list count rhs parent k1 k2 place list
+  obeyed-kept e = record {
+    became = λ plan. became-as (record { is = refl; heap = O .facing .here .ready .held .heap }) (ap (obeyed (hunt a plan) (core (tables plan g rhs parent k1 k2 place list))) (sym e));
+    small-rhs = O .facing .here .ready .small-rhs;
+  }
 
-pub asked-not : (a : Aim) (plan parent : List ℕ) (u d : ℕ) {r : Child} → r ≡ Not → Renews a plan parent u d r → (T : method.Tables) → T .parent ≡ parent → renewedAll (hunt a plan) T (outBy (floor a plan) u d) ≡ T
-asked-not a plan parent u d e R = subst (Renews a plan parent u d) e R
+  module _ {s : ℕ} {f : Found} (e : r ≡ Takes s f) where
+    fair : Fair a (O .u) d (Takes s f)
+    fair = subst (Fair a (O .u) d) e (O .fair)
 
-pub asked-is : (a : Aim) (plan parent : List ℕ) (u d : ℕ) {s : ℕ} {r : Child} → r ≡ Is s → Renews a plan parent u d r → RenewsAt a plan parent u d s
-asked-is a plan parent u d e R = subst (Renews a plan parent u d) e R
+    pub obeying-move : ((d < 4) × Placed at) × ((1 ≤ at .row + rowStep d) × (1 ≤ at .column + columnStep d))
+    obeying-move = move-asks (O .facing) (fair .0)
 
--- a sum of a small number and a cost
-pub sum-small : {v sum : ℕ} → sum ≤ v + mostCost → v ≤ mostG → (sum ≡ infinite) ⊎ (sum ≤ mostRhs)
-sum-small h l = inr (omega arith)
+    pub obeying-take : {to : Spot} → (to .row + 1 ≡ at .row + rowStep d) × (to .column + 1 ≡ at .column + columnStep d) → Taking a count s to f g rhs parent k1 k2 place list
+    obeying-take w = taking (entered-ready (O .facing) (fair .0) w) (fair .1)
+
+    pub obeyed-taken : {n : ℕ} {rhs′ parent′ k1′ k2′ place′ list′ : List ℕ} → Taken a s f g rhs parent k1 k2 place list n rhs′ parent′ k1′ k2′ place′ list′
+        → Obeyed a r g rhs parent k1 k2 place list n rhs′ parent′ k1′ k2′ place′ list′
+    obeyed-taken T =
+        let R = O .facing .here .ready in
+        record {
+          became = λ plan. became-as (T .became plan) (ap (obeyed (hunt a plan) (core (tables plan g rhs parent k1 k2 place list))) (sym e));
+          small-rhs = subst (Small mostRhs) (sym (T .rhs-is)) (small-set rhs s (f .rhs) (omega (arith, R .held .sized .rhs, fair .0 .inside)) (fair .1) (R .small-rhs));
+        }
 
 -- ---- the directions of a step, one after the other
 

@@ -2,22 +2,20 @@
 use choices;
 use entries;
 use entries::Aim;
+use entries::Asked;
 use plan;
 use plan::Spot;
 use tables;
-ghost use Prim.Native.Nat.{_≤_};
-ghost use Rattle.method.specs.Steps.{relaxedAll, lowered, renewedAll, raised, stepped};
-ghost use Rattle.plan.specs.Grid.{outBy};
+ghost use Rattle.method.specs.Steps.{lowered, raised, stepped};
 ghost use Rattle.tables.specs.Lent.{core, given, before, after};
-ghost use Rattle.entries.specs.Aims.{floor, hunt, mostG, mostRhs, Aimed, Small, ReadyAt};
+ghost use Rattle.entries.specs.Aims.{hunt, mostG, Aimed, ReadyAt};
 ghost use Rattle.entries.specs.Became.{Became};
-ghost use Rattle.steps.specs.Ready.{Facing, Lowering, Stepping};
+ghost use Rattle.steps.specs.Ready.{Obeying, Obeyed, Lowering, Stepping};
 ghost use Rattle.steps.specs.Loop.{Started, Finished};
 
-// Lower, one direction: the cell entered gets a smaller rhs with parent u, and its entry is set right.
-fn relax(
+// The cell that a move in direction d enters does what is asked of it; `at` is the spot that the move leaves. Returns the queue's count.
+fn obey(
     a: Aim,
-    plan: &[u8],
     g: &[u32],
     rhs: &mut [u32],
     parent: &mut [u8],
@@ -26,23 +24,18 @@ fn relax(
     place: &mut [u16],
     list: &mut [u16],
     count: usize,
-    v: u32,
-    u: usize,
     at: Spot,
     d: usize,
+    asked: Asked,
 ) -> usize
-    requires { ⌜ Facing a count u at d (given plan g rhs parent k1 k2 place list) × (v ≤ mostG) ⌝ }
-    ensures { λ r. ⌜ Became a r (after plan g rhs parent k1 k2 place list) (relaxedAll (hunt a (now (plan .entry))) v (core (before plan g rhs parent k1 k2 place list)) (outBy (floor a (now (plan .entry))) u d)) ⌝ }
-    ensures { λ _. ⌜ Small mostRhs (now (rhs .exit)) ⌝ }
+    requires { ⌜ Obeying a count at d asked (now g) (now rhs) (now parent) (now k1) (now k2) (now place) (now list) ⌝ }
+    ensures { λ r. ⌜ Obeyed a asked (now (g .entry)) (now (rhs .entry)) (now (parent .entry)) (now (k1 .entry)) (now (k2 .entry)) (now (place .entry)) (now (list .entry)) r (now (rhs .exit)) (now (parent .exit)) (now (k1 .exit)) (now (k2 .exit)) (now (place .exit)) (now (list .exit)) ⌝ }
 {
-    let asked = choices::relaxation(a, plan, rhs, v, u, d);
-    let choices::Relaxing::To(s, sum) = asked else {
+    let Asked::Takes(s, f) = asked else {
         return count;
     };
     let to = plan::moved(at, d);
-    rhs[s] = sum;
-    parent[s] = ((d + 2) % 4 + 1) as u8;
-    entries::set_right(a, g, rhs, k1, k2, place, list, count, s, to)
+    entries::take(a, g, rhs, parent, k1, k2, place, list, count, s, to, f)
 }
 
 // Lower: g of u becomes its rhs, u leaves the queue, and each open move from u is looked at.
@@ -67,37 +60,10 @@ fn lower(
     g[u] = v;
     let mut n = entries::set_right(a, g, rhs, k1, k2, place, list, count, u, at);
     for d in 0..4 {
-        n = relax(a, plan, g, rhs, parent, k1, k2, place, list, n, v, u, at, d);
+        let asked = choices::relaxation(a, plan, rhs, v, u, d);
+        n = obey(a, g, rhs, parent, k1, k2, place, list, n, at, d, asked);
     }
     n
-}
-
-// Raise, one direction: the cell entered is found anew if u is its parent.
-fn renew(
-    a: Aim,
-    plan: &[u8],
-    g: &[u32],
-    rhs: &mut [u32],
-    parent: &mut [u8],
-    k1: &mut [u32],
-    k2: &mut [u32],
-    place: &mut [u16],
-    list: &mut [u16],
-    count: usize,
-    u: usize,
-    at: Spot,
-    d: usize,
-) -> usize
-    requires { ⌜ Facing a count u at d (given plan g rhs parent k1 k2 place list) ⌝ }
-    ensures { λ r. ⌜ Became a r (after plan g rhs parent k1 k2 place list) (renewedAll (hunt a (now (plan .entry))) (core (before plan g rhs parent k1 k2 place list)) (outBy (floor a (now (plan .entry))) u d)) ⌝ }
-    ensures { λ _. ⌜ Small mostRhs (now (rhs .exit)) ⌝ }
-{
-    let asked = choices::child_by(a, plan, parent, u, d);
-    let choices::Child::Is(s) = asked else {
-        return count;
-    };
-    let to = plan::moved(at, d);
-    entries::found_anew(a, plan, g, rhs, parent, k1, k2, place, list, count, s, to)
 }
 
 // Raise: g of u becomes infinite, each neighbour with parent u is found anew, and last u's entry is set right.
@@ -121,7 +87,8 @@ fn raise(
     g[u] = tables::INFINITE;
     let mut n = count;
     for d in 0..4 {
-        n = renew(a, plan, g, rhs, parent, k1, k2, place, list, n, u, at, d);
+        let asked = choices::renewal(a, plan, g, parent, u, d);
+        n = obey(a, g, rhs, parent, k1, k2, place, list, n, at, d, asked);
     }
     entries::set_right(a, g, rhs, k1, k2, place, list, n, u, at)
 }

@@ -4,10 +4,6 @@ use Rattle.session.proofs.RefusalLaws.{refusal-told, table-number, tables-grant
 use borrow.Author.Needs.{needs}
 use Rattle.change.proofs.change_move.Statement.{statement}
 use Rattle.change.proofs.change_move.Tie as tie
-use Rattle.change.proofs.change_move.Reads as reads
-use Rattle.change.proofs.change_move.Lts as lts
-use Rattle.change.proofs.change_sound.Reads as change-sound-reads
-use Rattle.session.proofs.table_refusal.Reads as table-refusal-reads
 
 -- The places that the answers look back to.
 abbrev else-1 : tie.After-change-sound-arg7 → tie.Else1

@@ -4,10 +4,6 @@ use Rattle.change.proofs.RefusalLaws.{change-granted}
 use borrow.Author.Needs.{needs}
 use Rattle.change.proofs.change_sound.Statement.{statement}
 use Rattle.change.proofs.change_sound.Tie as tie
-use Rattle.change.proofs.change_sound.Reads as reads
-use Rattle.change.proofs.change_sound.Lts as lts
-use Rattle.change.proofs.move_refusal.Reads as move-refusal-reads
-use Rattle.change.proofs.work_in.Reads as work-in-reads
 
 -- The places that the answers look back to.
 abbrev at-start-for-move-refusal : tie.After-slice-known7 → tie.Start

@@ -6,11 +6,6 @@ use native.Mathlib.Omega.{arith}
 use borrow.Author.Needs.{needs}
 use Rattle.change.proofs.move_refusal.Statement.{statement}
 use Rattle.change.proofs.move_refusal.Tie as tie
-use Rattle.change.proofs.move_refusal.Reads as reads
-use Rattle.change.proofs.move_refusal.Lts as lts
-use Rattle.plan.proofs.is_byte.Reads as is-byte-reads
-use Rattle.plan.proofs.spot_of.Reads as spot-of-reads
-use Rattle.plan.proofs.stays_in.Reads as stays-in-reads
 
 -- The places that the answers look back to.
 abbrev else-2 : tie.After-is-byte → tie.Else2

@@ -1,6 +1,5 @@
-use native.Mathlib.Omega.{arith}
-use Rattle.plan.proofs.MoveLaws.{area}
-use Rattle.change.proofs.WorkLaws.{entering-sum, entered-in, deciding, kept-worked, asked-entering, set-worked}
+-- The byte is set; what the change asks of the cell entered is done, by `take`, or nothing is (WorkLaws).
+use Rattle.change.proofs.WorkLaws.{entering-sum, deciding, kept-worked, asked-taking, taken-worked}
 use borrow.Author.Needs.{needs}
 use Rattle.change.proofs.work_in.Statement.{statement}
 use Rattle.change.proofs.work_in.Tie as tie
@@ -9,41 +8,38 @@ use Rattle.change.proofs.work_in.Tie as tie
 abbrev at-start-for-entered : tie.After-slice-known7 → tie.Start
 at-start-for-entered c = c .before .before .before .before .before .before .before .before
 
-abbrev at-start-for-effect-of : tie.After-effect-of-arg3 → tie.Start
-at-start-for-effect-of c = at-start-for-entered (c .before .before .before .before .before)
+abbrev at-start-from-back-code : tie.After-back-code → tie.Start
+at-start-from-back-code c = at-start-for-entered (c .before .before)
 
-abbrev after-entered : tie.After-effect-of → tie.After-entered
-after-entered c = c .before .before .before .before .before
+abbrev after-back-code-for-effect-of : tie.After-effect-of-arg3 → tie.After-back-code
+after-back-code-for-effect-of c = c .before .before .before .before
 
-abbrev at-start-from-effect-of : tie.After-effect-of → tie.Start
-at-start-from-effect-of c = at-start-for-effect-of (c .before)
+abbrev after-back-code-from-effect-of : tie.After-effect-of → tie.After-back-code
+after-back-code-from-effect-of c = after-back-code-for-effect-of (c .before)
 
-abbrev at-start : tie.After-known-told → tie.Start
-at-start c = at-start-from-effect-of (c .before .before .before)
+abbrev after-back-code-from-aim-of : tie.After-aim-of → tie.After-back-code
+after-back-code-from-aim-of c = after-back-code-from-effect-of (c .before .before .before .before)
 
-abbrev after-spot-of : tie.After-set-right-arg5 → tie.After-spot-of
-after-spot-of c = c .before .before .before .before .before
+abbrev at-start-from-aim-of : tie.After-aim-of → tie.Start
+at-start-from-aim-of c = at-start-from-back-code (after-back-code-from-aim-of c)
 
-abbrev after-aim-of-for-set-right : tie.After-set-right-arg5 → tie.After-aim-of
-after-aim-of-for-set-right c = after-spot-of c .before
+abbrev after-spot-of : tie.After-take-arg6 → tie.After-spot-of
+after-spot-of c = c .before .before .before .before .before .before
 
-abbrev after-set-right : tie.After-slice-known12 → tie.After-set-right
-after-set-right c = c .before .before .before .before .before .before .before .before
+abbrev after-aim-of : tie.After-take-arg6 → tie.After-aim-of
+after-aim-of c = after-spot-of c .before
 
-abbrev after-aim-of-for-returns-2 : tie.After-slice-known12 → tie.After-aim-of
-after-aim-of-for-returns-2 c = after-aim-of-for-set-right (after-set-right c .before)
+abbrev after-take : tie.After-slice-known14 → tie.After-take
+after-take c = c .before .before .before .before .before .before .before .before .before .before .before .before
+
+abbrev after-aim-of-for-returns-2 : tie.After-slice-known14 → tie.After-aim-of
+after-aim-of-for-returns-2 c = after-aim-of (after-take c .before)
 
 entered-requires : tie.Need-entered-requires
 entered-requires c κs = entering-sum (at-start-for-entered c .pre)
 
-add-k : tie.Need-add-k
-add-k c = search needs
-
-add-k-2 : tie.Need-add-k-2
-add-k-2 c = search needs
-
-cast-k : tie.Need-cast-k
-cast-k c = search needs
+back-code-requires : tie.Need-back-code-requires
+back-code-requires c κs = search needs
 
 mul-i : tie.Need-mul-i
 mul-i c = search needs
@@ -58,10 +54,11 @@ slice-write-plan : tie.Need-slice-write-plan
 slice-write-plan c = search needs
 
 effect-of-requires : tie.Need-effect-of-requires
-effect-of-requires c κs = deciding (at-start-for-effect-of c .pre) (c .before .before .before .before .entered .ensures)
+effect-of-requires c κs =
+    deciding (at-start-from-back-code (after-back-code-for-effect-of c) .pre) (after-back-code-for-effect-of c .before .entered .ensures)
 
-enum-known-effect : tie.Need-enum-known-effect
-enum-known-effect c = search needs
+enum-known-asked : tie.Need-enum-known-asked
+enum-known-asked c = search needs
 
 enum-told : tie.Need-enum-told
 enum-told c = search needs
@@ -78,34 +75,11 @@ same-length-3 c = search needs
 returns : tie.Need-returns
 returns c =
     kept-worked
-    (at-start-from-effect-of (c .before .before) .pre)
-    (after-entered (c .before .before) .entered .ensures)
+    (at-start-from-back-code (after-back-code-from-effect-of (c .before .before)) .pre)
+    (after-back-code-from-effect-of (c .before .before) .before .entered .ensures)
+    (after-back-code-from-effect-of (c .before .before) .back-code .ensures)
     (c .before .before .effect-of .ensures)
     (c .enum-told .given .1)
-
-mul-rhs : tie.Need-mul-rhs
-mul-rhs c =
-    omega (
-      arith,
-      entered-in (at-start c .pre) (after-entered (c .before .before .before) .entered .ensures),
-      area (at-start c .pre .sound .plan .size),
-    )
-
-slice-write-rhs : tie.Need-slice-write-rhs
-slice-write-rhs c =
-    omega (
-      arith,
-      entered-in (at-start c .pre) (after-entered (c .before .before .before) .entered .ensures),
-      at-start c .pre .sound .numbers .sized .rhs,
-    )
-
-slice-write-parent : tie.Need-slice-write-parent
-slice-write-parent c =
-    omega (
-      arith,
-      entered-in (at-start c .pre) (after-entered (c .before .before .before) .entered .ensures),
-      at-start c .pre .sound .numbers .sized .parent,
-    )
 
 aim-of-requires : tie.Need-aim-of-requires
 aim-of-requires c κs = search needs
@@ -113,14 +87,15 @@ aim-of-requires c κs = search needs
 spot-of-requires : tie.Need-spot-of-requires
 spot-of-requires c κs = search needs
 
-set-right-requires : tie.Need-set-right-requires
-set-right-requires c κs =
-    asked-entering
-    (at-start-from-effect-of (after-aim-of-for-set-right c .before .before .before .before) .pre)
-    (after-entered (after-aim-of-for-set-right c .before .before .before .before) .entered .ensures)
-    (after-aim-of-for-set-right c .before .before .before .before .effect-of .ensures)
-    (after-aim-of-for-set-right c .before .before .effect .given .1)
-    (after-aim-of-for-set-right c .aim-of .ensures)
+take-requires : tie.Need-take-requires
+take-requires c κs =
+    asked-taking
+    (at-start-from-aim-of (after-aim-of c) .pre)
+    (after-back-code-from-aim-of (after-aim-of c) .before .entered .ensures)
+    (after-back-code-from-aim-of (after-aim-of c) .back-code .ensures)
+    (after-aim-of c .before .before .before .before .effect-of .ensures)
+    (after-aim-of c .before .before .asked .given .1)
+    (after-aim-of c .aim-of .ensures)
     (after-spot-of c .spot-of .ensures)
 
 same-length-4 : tie.Need-same-length-4
@@ -146,12 +121,13 @@ same-length-10 c = search needs
 
 returns-2 : tie.Need-returns-2
 returns-2 c =
-    let e = after-set-right c .set-right .ensures in
-    set-worked
-    (at-start-from-effect-of (after-aim-of-for-returns-2 c .before .before .before .before) .pre)
-    (after-entered (after-aim-of-for-returns-2 c .before .before .before .before) .entered .ensures)
+    let e = after-take c .take .ensures in
+    taken-worked
+    (at-start-from-aim-of (after-aim-of-for-returns-2 c) .pre)
+    (after-back-code-from-aim-of (after-aim-of-for-returns-2 c) .before .entered .ensures)
+    (after-back-code-from-aim-of (after-aim-of-for-returns-2 c) .back-code .ensures)
     (after-aim-of-for-returns-2 c .before .before .before .before .effect-of .ensures)
-    (after-aim-of-for-returns-2 c .before .before .effect .given .1)
+    (after-aim-of-for-returns-2 c .before .before .asked .given .1)
     (after-aim-of-for-returns-2 c .aim-of .ensures)
     (e .0)
     (e .1)
@@ -161,26 +137,21 @@ work-in-spec =
     tie.close
     (tie.spec
     entered-requires
-    add-k
-    add-k-2
-    cast-k
+    back-code-requires
     mul-i
     add-i
     slice-read-old
     slice-write-plan
     effect-of-requires
-    enum-known-effect
+    enum-known-asked
     enum-told
     same-length
     same-length-2
     same-length-3
     returns
-    mul-rhs
-    slice-write-rhs
-    slice-write-parent
     aim-of-requires
     spot-of-requires
-    set-right-requires
+    take-requires
     same-length-4
     same-length-5
     same-length-6

@@ -1,3 +1,4 @@
+-- Each return is a case of the method's `relaxed`, over what `move_out` answers of the move (AskLaws).
 use native.Mathlib.Omega.{arith}
 use Rattle.plan.proofs.MoveLaws.{area}
 use Rattle.entries.proofs.AnewLaws.{said-shut, said-to}
@@ -29,20 +30,13 @@ enum-told : tie.Need-enum-told
 enum-told c = search needs
 
 returns : tie.Need-returns
-returns c =
-    let p = at-start (c .before .before) .pre in
-    relaxes-none (p .0) _ _ (p .1 .1 .1) _ (said-shut _ (c .enum-told .given .1) (c .before .before .move-out .ensures))
+returns c = relaxes-none (at-start (c .before .before) .pre) (said-shut (c .enum-told .given .1) (c .before .before .move-out .ensures))
 
 returns-2 : tie.Need-returns-2
 returns-2 c =
-    let p = at-start (after-move-out-from-then-1 c) .pre in
     relaxes-hunter
-    (p .0)
-    _
-    _
-    (p .1 .1 .1)
-    _
-    (said-to _ (c .before .before .before .reach .given .1) (after-move-out-from-then-1 c .move-out .ensures))
+    (at-start (after-move-out-from-then-1 c) .pre)
+    (said-to (c .before .before .before .reach .given .1) (after-move-out-from-then-1 c .move-out .ensures))
     (c .if1 .taken)
 
 cast-sum : tie.Need-cast-sum
@@ -53,11 +47,11 @@ add-sum c = search needs
 
 mul-if2 : tie.Need-mul-if2
 mul-if2 c =
-    let p = at-start (after-move-out c) .pre in
+    let L = at-start (after-move-out c) .pre .leaving in
     omega (
       arith,
-      enters-by (p .0) _ _ (p .1 .1 .1) (said-to _ (after-reach c .reach .given .1) (after-move-out c .move-out .ensures)) .0 .inside,
-      area (p .0 .obeys .size),
+      enters-by L (said-to (after-reach c .reach .given .1) (after-move-out c .move-out .ensures)) .0 .inside,
+      area (L .aimed .obeys .size),
     )
 
 shared-slice-read-if2 : tie.Need-shared-slice-read-if2
@@ -65,38 +59,23 @@ shared-slice-read-if2 c =
     let p = at-start (after-move-out (c .before)) .pre in
     omega (
       arith,
-      enters-by
-          (p .0)
-          _
-          _
-          (p .1 .1 .1)
-          (said-to _ (after-reach (c .before) .reach .given .1) (after-move-out (c .before) .move-out .ensures)) .0 .inside,
-      p .1 .0,
+      enters-by (p .leaving) (said-to (after-reach (c .before) .reach .given .1) (after-move-out (c .before) .move-out .ensures)) .0 .inside,
+      p .long-rhs,
     )
 
 returns-3 : tie.Need-returns-3
 returns-3 c =
-    let p = at-start (after-move-out (c .before .before)) .pre in
     relaxes-not
-    (p .0)
-    _
-    _
-    (p .1 .1 .1)
-    _
-    (said-to _ (after-reach (c .before .before) .reach .given .1) (after-move-out (c .before .before) .move-out .ensures))
+    (at-start (after-move-out (c .before .before)) .pre)
+    (said-to (after-reach (c .before .before) .reach .given .1) (after-move-out (c .before .before) .move-out .ensures))
     (c .before .before .if1 .left)
     (c .if2 .taken)
 
 returns-4 : tie.Need-returns-4
 returns-4 c =
-    let p = at-start (after-move-out (c .before .before)) .pre in
     relaxes-to
-    (p .0)
-    _
-    _
-    (p .1 .1 .1)
-    _
-    (said-to _ (after-reach (c .before .before) .reach .given .1) (after-move-out (c .before .before) .move-out .ensures))
+    (at-start (after-move-out (c .before .before)) .pre)
+    (said-to (after-reach (c .before .before) .reach .given .1) (after-move-out (c .before .before) .move-out .ensures))
     (c .before .before .if1 .left)
     (c .if2 .left)
 

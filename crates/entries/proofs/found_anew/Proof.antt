@@ -1,4 +1,4 @@
-use Rattle.entries.proofs.FoundLaws.{findable, entering, ready-set, became-anew, found-small}
+use Rattle.entries.proofs.FoundLaws.{findable, taking, found-small, became-as, anew-is}
 use borrow.Author.Needs.{needs}
 use Rattle.entries.proofs.found_anew.Statement.{statement}
 use Rattle.entries.proofs.found_anew.Tie as tie
@@ -7,31 +7,19 @@ use Rattle.entries.proofs.found_anew.Tie as tie
 abbrev at-start : tie.After-anew → tie.Start
 at-start c = c .before .before .before .before .before .before .before .before .before
 
-abbrev after-anew-for-set-right : tie.After-set-right-arg5 → tie.After-anew
-after-anew-for-set-right c = c .before .before .before .before .before
+abbrev after-anew-for-take : tie.After-take-arg6 → tie.After-anew
+after-anew-for-take c = c .before .before .before .before .before .before
 
-abbrev after-set-right : tie.After-slice-known10 → tie.After-set-right
-after-set-right c = c .before .before .before .before .before .before .before .before
-
-abbrev after-anew : tie.After-slice-known10 → tie.After-anew
-after-anew c = after-anew-for-set-right (after-set-right c .before)
+abbrev after-take : tie.After-slice-known12 → tie.After-take
+after-take c = c .before .before .before .before .before .before .before .before .before .before .before .before
 
 anew-requires : tie.Need-anew-requires
 anew-requires c κs = let p = c .before .before .before .before .before .before .before .before .pre in findable (p .ready) (p .inside)
 
-mul-rhs : tie.Need-mul-rhs
-mul-rhs c = search needs
-
-slice-write-rhs : tie.Need-slice-write-rhs
-slice-write-rhs c = search needs
-
-slice-write-parent : tie.Need-slice-write-parent
-slice-write-parent c = search needs
-
-set-right-requires : tie.Need-set-right-requires
-set-right-requires c κs =
-    let p = at-start (after-anew-for-set-right c) .pre in
-    entering (ready-set _ 0 p (found-small _ (p .ready) (after-anew-for-set-right c .anew .ensures)))
+take-requires : tie.Need-take-requires
+take-requires c κs =
+    let p = at-start (after-anew-for-take c) .pre in
+    taking p (found-small (findable (p .ready) (p .inside)) (after-anew-for-take c .anew .ensures))
 
 same-length : tie.Need-same-length
 same-length c = search needs
@@ -53,21 +41,16 @@ same-length-6 c = search needs
 
 returns : tie.Need-returns
 returns c =
-    let p = at-start (after-anew c) .pre in
-    let e = after-set-right c .set-right .ensures in (
-      became-anew _ _ _ _ _ _ _ (at-start (after-anew c) .args .list .now) (after-anew c .anew .ensures) (e .0),
-      (ready-set _ 0 p (found-small _ (p .ready) (after-anew c .anew .ensures)) .ready .small-rhs, e .1),
-    )
+    let a = after-anew-for-take (after-take c .before) in
+    let e = after-take c .take .ensures in
+    (became-as (e .0 .became _) (anew-is (at-start a .args .a) _ _ _ (a .anew .ensures)), e .1)
 
 pub found-anew-spec : {M : Type 1} → statement M
 found-anew-spec =
     tie.close
     (tie.spec
     anew-requires
-    mul-rhs
-    slice-write-rhs
-    slice-write-parent
-    set-right-requires
+    take-requires
     same-length
     same-length-2
     same-length-3

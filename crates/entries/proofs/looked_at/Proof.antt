@@ -25,14 +25,14 @@ enum-told : tie.Need-enum-told
 enum-told c = search needs
 
 returns : tie.Need-returns
-returns c = looked-shut _ _ (said-shut _ (c .enum-told .given .1) (c .before .before .move-into .ensures))
+returns c = looked-shut _ _ (said-shut (c .enum-told .given .1) (c .before .before .move-into .ensures))
 
 mul-far : tie.Need-mul-far
 mul-far c =
     let p = at-start (c .before) .pre in
     omega (
       arith,
-      neighbour-in _ (p .0 .obeys) _ _ (p .1) (said-to _ (c .before .reach .given .1) (c .before .before .before .move-into .ensures)),
+      neighbour-in _ (p .0 .obeys) _ _ (p .1) (said-to (c .before .reach .given .1) (c .before .before .before .move-into .ensures)),
       area (p .0 .obeys .size),
     )
 
@@ -41,14 +41,14 @@ shared-slice-read-far c =
     let p = at-start (c .before .before) .pre in
     omega (
       arith,
-      neighbour-in _ (p .0 .obeys) _ _ (p .1) (said-to _ (c .before .before .reach .given .1) (c .before .before .before .before .move-into .ensures)),
+      neighbour-in _ (p .0 .obeys) _ _ (p .1) (said-to (c .before .before .reach .given .1) (c .before .before .before .before .move-into .ensures)),
       p .0 .long-g,
     )
 
 returns-2 : tie.Need-returns-2
 returns-2 c =
     looked-left _ _
-    (said-to _ (after-reach-from-then-1 c .reach .given .1) (after-reach-from-then-1 c .before .before .move-into .ensures))
+    (said-to (after-reach-from-then-1 c .reach .given .1) (after-reach-from-then-1 c .before .before .move-into .ensures))
     (omega arith)
 
 cast-sum : tie.Need-cast-sum
@@ -59,26 +59,20 @@ add-sum c =
     let p = at-start (after-reach c) .pre in
     omega (
       arith,
-      neighbour-in _ (p .0 .obeys) _ _ (p .1) (said-to _ (after-reach c .reach .given .1) (after-reach c .before .before .move-into .ensures)),
-      finite-small (at-start (after-reach c) .args .g .now) (p .0 .small-g) (after-reach c .reach .given .0 .0) (c .if1 .left),
+      neighbour-in _ (p .0 .obeys) _ _ (p .1) (said-to (after-reach c .reach .given .1) (after-reach c .before .before .move-into .ensures)),
+      finite-small (at-start (after-reach c) .args .g .now) (p .0 .small-g) (after-reach c .reach .given .0 .1 .0) (c .if1 .left),
     )
 
 returns-3 : tie.Need-returns-3
 returns-3 c =
     looked-left _ _
-    (said-to _ (after-reach (c .before .before) .reach .given .1) (after-reach (c .before .before) .before .before .move-into .ensures))
+    (said-to (after-reach (c .before .before) .reach .given .1) (after-reach (c .before .before) .before .before .move-into .ensures))
     (c .if2 .taken)
-
-add-t13 : tie.Need-add-t13
-add-t13 c = search needs
-
-cast-t17 : tie.Need-cast-t17
-cast-t17 c = search needs
 
 returns-4 : tie.Need-returns-4
 returns-4 c =
     looked-taken _ _
-    (said-to _ (after-reach (c .before .before) .reach .given .1) (after-reach (c .before .before) .before .before .move-into .ensures))
+    (said-to (after-reach (c .before .before) .reach .given .1) (after-reach (c .before .before) .before .before .move-into .ensures))
     (c .if2 .left)
 
 pub looked-at-spec : {M : Type 1} → statement M
@@ -95,6 +89,4 @@ looked-at-spec =
     cast-sum
     add-sum
     returns-3
-    add-t13
-    cast-t17
     returns-4)

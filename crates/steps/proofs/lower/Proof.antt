@@ -1,6 +1,6 @@
 -- After d directions the tables are the method's with the moves of those directions relaxed.
 use borrow.Author.Needs.{needs}
-use mathlib.Core.Path.{_≡_, sym, _∙_}
+use mathlib.Core.Path.{_≡_, refl, sym, _∙_}
 use mathlib.Core.Logic.{inr}
 use Prim.Native.Nat.{_≤_, _-_}
 use native.Mathlib.Omega.{arith}
@@ -11,8 +11,8 @@ use Rattle.plan.specs.Grid.{outBy, upTo}
 use Rattle.plan.proofs.MoveLaws.{area}
 use Rattle.tables.specs.Lent.{tables, core}
 use Rattle.entries.specs.Aims.{floor, hunt, mostRhs, Ready}
-use Rattle.entries.proofs.FoundLaws.{entering}
-use Rattle.steps.proofs.StepLaws.{ready-after, g-set, lower-finite, relaxed-first, relaxed-more, lower-is}
+use Rattle.entries.proofs.FoundLaws.{entering, became-as}
+use Rattle.steps.proofs.StepLaws.{ready-after, g-set, lower-finite, facing, relaxing, obeying, relaxed-first, relaxed-more, lower-is}
 use Rattle.steps.proofs.lower.Statement.{statement}
 use Rattle.steps.proofs.lower.Tie as tie
 
@@ -35,11 +35,11 @@ abbrev μ-loop : tie.MeasureT-loop
 abbrev at-start-for-mul-v : tie.After-slice-known7 Inv-loop μ-loop → tie.Start Inv-loop μ-loop
 at-start-for-mul-v c = c .before .before .before .before .before .before .before .before
 
-abbrev at-start-for-slice-read-v : tie.After-slice-known8 Inv-loop μ-loop → tie.Start Inv-loop μ-loop
-at-start-for-slice-read-v c = at-start-for-mul-v (c .before)
+abbrev at-start : tie.After-slice-known8 Inv-loop μ-loop → tie.Start Inv-loop μ-loop
+at-start c = at-start-for-mul-v (c .before)
 
 abbrev at-start-for-set-right : tie.After-set-right-arg6 Inv-loop μ-loop → tie.Start Inv-loop μ-loop
-at-start-for-set-right c = at-start-for-slice-read-v (c .before .before .before .before .before .before)
+at-start-for-set-right c = at-start (c .before .before .before .before .before .before)
 
 abbrev after-set-right-for-loop-holds : tie.After-slice-known12 Inv-loop μ-loop → tie.After-set-right Inv-loop μ-loop
 after-set-right-for-loop-holds c = c .before .before .before .before .before .before .before .before
@@ -53,26 +53,26 @@ at-start-from-loop c = at-start-for-loop-holds (c .before)
 abbrev after-set-right-from-loop : tie.After-loop Inv-loop μ-loop → tie.After-set-right Inv-loop μ-loop
 after-set-right-from-loop c = after-set-right-for-loop-holds (c .before .before)
 
-abbrev in-loop-for-relax : tie.After-relax-arg7 Inv-loop μ-loop → tie.In-loop Inv-loop μ-loop
-in-loop-for-relax c = c .before .before .before .before .before .before .before
+abbrev after-relaxation-for-obey : tie.After-obey-arg7 Inv-loop μ-loop → tie.After-relaxation Inv-loop μ-loop
+after-relaxation-for-obey c = c .before .before .before .before .before .before .before
 
-abbrev after-relax : tie.After-slice-known18 Inv-loop μ-loop → tie.After-relax Inv-loop μ-loop
-after-relax c = c .before .before .before .before .before .before .before .before .before .before .before .before
+abbrev after-obey : tie.After-slice-known18 Inv-loop μ-loop → tie.After-obey Inv-loop μ-loop
+after-obey c = c .before .before .before .before .before .before .before .before .before .before .before .before
 
-abbrev in-loop : tie.After-slice-known18 Inv-loop μ-loop → tie.In-loop Inv-loop μ-loop
-in-loop c = in-loop-for-relax (after-relax c .before)
+abbrev after-relaxation-for-loop-again : tie.After-slice-known18 Inv-loop μ-loop → tie.After-relaxation Inv-loop μ-loop
+after-relaxation-for-loop-again c = after-relaxation-for-obey (after-obey c .before)
 
 mul-v : tie.Need-mul-v Inv-loop μ-loop
 mul-v c = let p = at-start-for-mul-v c .pre .here in omega (arith, p .inside, area (p .ready .aimed .obeys .size))
 
 slice-read-v : tie.Need-slice-read-v Inv-loop μ-loop
-slice-read-v c = let p = at-start-for-slice-read-v c .pre .here in omega (arith, p .inside, p .ready .held .sized .rhs)
+slice-read-v c = let p = at-start c .pre .here in omega (arith, p .inside, p .ready .held .sized .rhs)
 
 mul-g : tie.Need-mul-g Inv-loop μ-loop
-mul-g c = let p = at-start-for-slice-read-v c .pre .here in omega (arith, p .inside, area (p .ready .aimed .obeys .size))
+mul-g c = let p = at-start c .pre .here in omega (arith, p .inside, area (p .ready .aimed .obeys .size))
 
 slice-write-g : tie.Need-slice-write-g Inv-loop μ-loop
-slice-write-g c = let p = at-start-for-slice-read-v c .pre .here in omega (arith, p .inside, p .ready .held .sized .g)
+slice-write-g c = let p = at-start c .pre .here in omega (arith, p .inside, p .ready .held .sized .g)
 
 set-right-requires : tie.Need-set-right-requires Inv-loop μ-loop
 set-right-requires c κs =
@@ -88,29 +88,31 @@ loop-holds c =
       ready-after R (setRight-sized (R .held .sized) _ _) (after-set-right-for-loop-holds c .set-right .ensures .0 _ _) (R .small-rhs),
     )
 
-relax-requires : tie.Need-relax-requires Inv-loop μ-loop
-relax-requires c κs =
-    let p = at-start-from-loop (in-loop-for-relax c .before) .pre in (
-      record {
-        here = record { ready = in-loop-for-relax c .before .loop .inv .2; inside = p .here .inside; stands = p .here .stands };
-        direction = in-loop-for-relax c .loop-test .taken;
-      },
-      lower-finite p,
-    )
+relaxation-requires : tie.Need-relaxation-requires Inv-loop μ-loop
+relaxation-requires c κs =
+    let p = at-start-from-loop (c .before .before) .pre in
+    relaxing (facing (p .here) (c .before .before .loop .inv .2) (c .before .loop-test .taken)) (lower-finite p)
+
+obey-requires : tie.Need-obey-requires Inv-loop μ-loop
+obey-requires c κs =
+    let r = after-relaxation-for-obey c in
+    let p = at-start-from-loop (r .before .before .before) .pre in
+    obeying (facing (p .here) (r .before .before .before .loop .inv .2) (r .before .before .loop-test .taken)) (r .relaxation .ensures .fair)
 
 add-d : tie.Need-add-d Inv-loop μ-loop
-add-d c = omega (arith, in-loop c .loop-test .taken)
+add-d c = omega (arith, after-relaxation-for-loop-again c .before .before .loop-test .taken)
 
 loop-less : tie.Need-loop-less Inv-loop μ-loop
-loop-less c = omega (arith, in-loop c .loop-test .taken)
+loop-less c = omega (arith, after-relaxation-for-loop-again c .before .before .loop-test .taken)
 
 loop-again : tie.Need-loop-again Inv-loop μ-loop
 loop-again c =
-    let i = in-loop c .before .loop .inv in
-    let e = after-relax c .relax .ensures in (
-      omega (arith, in-loop c .loop-test .taken),
-      relaxed-more _ _ _ _ _ (i .1) (e .0 .is),
-      ready-after (i .2) (relaxedAll-sized (i .2 .held .sized) _ _ _) (e .0) (e .1),
+    let i = after-relaxation-for-loop-again c .before .before .before .loop .inv in
+    let e = after-obey c .obey .ensures in
+    let B = became-as (e .became _) (sym (after-relaxation-for-loop-again c .relaxation .ensures .is _ refl)) in (
+      omega (arith, after-relaxation-for-loop-again c .before .before .loop-test .taken),
+      relaxed-more _ _ _ _ _ (i .1) (B .is),
+      ready-after (i .2) (relaxedAll-sized (i .2 .held .sized) _ _ _) B (e .small-rhs),
     )
 
 same-length : tie.Need-same-length Inv-loop μ-loop
@@ -130,11 +132,13 @@ same-length-5 c = c .before .loop .inv .2 .held .sized .k2 ∙ sym (at-start-fro
 
 same-length-6 : tie.Need-same-length-6 Inv-loop μ-loop
 same-length-6 c =
-    c .before .loop .inv .2 .held .heap .tables .agree .lengthPlace ∙ sym (at-start-from-loop (c .before) .pre .here .ready .held .heap .tables .agree .lengthPlace)
+    c .before .loop .inv .2 .held .heap .tables .agree .lengthPlace
+    ∙ sym (at-start-from-loop (c .before) .pre .here .ready .held .heap .tables .agree .lengthPlace)
 
 same-length-7 : tie.Need-same-length-7 Inv-loop μ-loop
 same-length-7 c =
-    c .before .loop .inv .2 .held .heap .tables .agree .lengthList ∙ sym (at-start-from-loop (c .before) .pre .here .ready .held .heap .tables .agree .lengthList)
+    c .before .loop .inv .2 .held .heap .tables .agree .lengthList
+    ∙ sym (at-start-from-loop (c .before) .pre .here .ready .held .heap .tables .agree .lengthList)
 
 returns : tie.Need-returns Inv-loop μ-loop
 returns c =
@@ -160,7 +164,8 @@ lower-spec =
     slice-write-g
     set-right-requires
     loop-holds
-    relax-requires
+    relaxation-requires
+    obey-requires
     add-d
     loop-less
     loop-again

@@ -10,8 +10,8 @@ use Rattle.plan.specs.Grid.{outBy, upTo}
 use Rattle.plan.proofs.MoveLaws.{area}
 use Rattle.tables.specs.Lent.{tables, core}
 use Rattle.entries.specs.Aims.{floor, hunt, mostRhs, Ready}
-use Rattle.entries.proofs.FoundLaws.{entering}
-use Rattle.steps.proofs.StepLaws.{ready-after, g-set, renewed-first, renewed-more, raise-is}
+use Rattle.entries.proofs.FoundLaws.{entering, became-as}
+use Rattle.steps.proofs.StepLaws.{ready-after, g-set, facing, renewing, obeying, renewed-first, renewed-more, raise-is}
 use Rattle.steps.proofs.raise.Statement.{statement}
 use Rattle.steps.proofs.raise.Tie as tie
 
@@ -42,8 +42,8 @@ after-loop-for-set-right c = c .before .before .before .before .before .before
 abbrev at-loop : tie.After-set-right-arg6 Inv-loop μ-loop → tie.At-loop Inv-loop μ-loop
 at-loop c = after-loop-for-set-right c .before
 
-abbrev in-loop-for-renew : tie.After-renew-arg7 Inv-loop μ-loop → tie.In-loop Inv-loop μ-loop
-in-loop-for-renew c = c .before .before .before .before .before .before .before
+abbrev after-renewal-for-obey : tie.After-obey-arg7 Inv-loop μ-loop → tie.After-renewal Inv-loop μ-loop
+after-renewal-for-obey c = c .before .before .before .before .before .before .before
 
 abbrev after-set-right : tie.After-slice-known17 Inv-loop μ-loop → tie.After-set-right Inv-loop μ-loop
 after-set-right c = c .before .before .before .before .before .before .before .before
@@ -54,11 +54,11 @@ after-loop c = after-loop-for-set-right (after-set-right c .before)
 abbrev at-start : tie.After-slice-known17 Inv-loop μ-loop → tie.Start Inv-loop μ-loop
 at-start c = at-start-from-loop (after-loop c .before)
 
-abbrev after-renew : tie.After-slice-known13 Inv-loop μ-loop → tie.After-renew Inv-loop μ-loop
-after-renew c = c .before .before .before .before .before .before .before .before .before .before .before .before
+abbrev after-obey : tie.After-slice-known13 Inv-loop μ-loop → tie.After-obey Inv-loop μ-loop
+after-obey c = c .before .before .before .before .before .before .before .before .before .before .before .before
 
-abbrev in-loop-for-loop-again : tie.After-slice-known13 Inv-loop μ-loop → tie.In-loop Inv-loop μ-loop
-in-loop-for-loop-again c = in-loop-for-renew (after-renew c .before)
+abbrev after-renewal-for-loop-again : tie.After-slice-known13 Inv-loop μ-loop → tie.After-renewal Inv-loop μ-loop
+after-renewal-for-loop-again c = after-renewal-for-obey (after-obey c .before)
 
 mul-g : tie.Need-mul-g Inv-loop μ-loop
 mul-g c = let p = at-start-for-mul-g c .pre in omega (arith, p .inside, area (p .ready .aimed .obeys .size))
@@ -69,27 +69,31 @@ slice-write-g c = let p = at-start-for-mul-g c .pre in omega (arith, p .inside, 
 loop-holds : tie.Need-loop-holds Inv-loop μ-loop
 loop-holds c = (omega arith, renewed-first _ _ _, g-set _ (at-start-for-mul-g c .pre) (inl refl) .ready)
 
-renew-requires : tie.Need-renew-requires Inv-loop μ-loop
-renew-requires c κs =
-    let p = at-start-from-loop (in-loop-for-renew c .before) .pre in
-    record {
-      here = record { ready = in-loop-for-renew c .before .loop .inv .2; inside = p .inside; stands = p .stands };
-      direction = in-loop-for-renew c .loop-test .taken;
-    }
+renewal-requires : tie.Need-renewal-requires Inv-loop μ-loop
+renewal-requires c κs =
+    let l = c .before .before .before in
+    renewing (facing (at-start-from-loop l .pre) (l .loop .inv .2) (c .before .before .loop-test .taken))
+
+obey-requires : tie.Need-obey-requires Inv-loop μ-loop
+obey-requires c κs =
+    let r = after-renewal-for-obey c in
+    let l = r .before .before .before .before in
+    obeying (facing (at-start-from-loop l .pre) (l .loop .inv .2) (r .before .before .before .loop-test .taken)) (r .renewal .ensures .fair)
 
 add-d : tie.Need-add-d Inv-loop μ-loop
-add-d c = omega (arith, in-loop-for-loop-again c .loop-test .taken)
+add-d c = omega (arith, after-renewal-for-loop-again c .before .before .before .loop-test .taken)
 
 loop-less : tie.Need-loop-less Inv-loop μ-loop
-loop-less c = omega (arith, in-loop-for-loop-again c .loop-test .taken)
+loop-less c = omega (arith, after-renewal-for-loop-again c .before .before .before .loop-test .taken)
 
 loop-again : tie.Need-loop-again Inv-loop μ-loop
 loop-again c =
-    let i = in-loop-for-loop-again c .before .loop .inv in
-    let e = after-renew c .renew .ensures in (
-      omega (arith, in-loop-for-loop-again c .loop-test .taken),
-      renewed-more _ _ _ _ (i .1) (e .0 .is),
-      ready-after (i .2) (renewedAll-sized (i .2 .held .sized) _ _) (e .0) (e .1),
+    let i = after-renewal-for-loop-again c .before .before .before .before .loop .inv in
+    let e = after-obey c .obey .ensures in
+    let B = became-as (e .became _) (sym (after-renewal-for-loop-again c .renewal .ensures .is _ refl refl)) in (
+      omega (arith, after-renewal-for-loop-again c .before .before .before .loop-test .taken),
+      renewed-more _ _ _ _ (i .1) (B .is),
+      ready-after (i .2) (renewedAll-sized (i .2 .held .sized) _ _) B (e .small-rhs),
     )
 
 set-right-requires : tie.Need-set-right-requires Inv-loop μ-loop
@@ -144,7 +148,8 @@ raise-spec =
     mul-g
     slice-write-g
     loop-holds
-    renew-requires
+    renewal-requires
+    obey-requires
     add-d
     loop-less
     loop-again

@@ -1,7 +1,8 @@
 use borrow.Author.Needs.{needs}
 use native.Mathlib.Omega.{arith}
 use Rattle.plan.proofs.MoveLaws.{area}
-use Rattle.steps.proofs.StepLaws.{became-as, step-here, step-entering, keyed, put-back-is, lowered-is, raised-is}
+use Rattle.entries.proofs.FoundLaws.{became-as}
+use Rattle.steps.proofs.StepLaws.{step-here, step-entering, keyed, put-back-is, lowered-is, raised-is}
 use Rattle.steps.proofs.step.Statement.{statement}
 use Rattle.steps.proofs.step.Tie as tie
 

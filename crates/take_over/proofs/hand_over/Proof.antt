@@ -51,7 +51,7 @@ same-length-6 c = search needs
 returns : tie.Need-returns
 returns c =
     let e = after-found-anew c .found-anew .ensures in
-    (hand-holds (at-start (after-aim-of c) .pre) (after-aim-of c .aim-of .ensures) (e .0), e .1 .1)
+    (hand-holds (at-start (after-aim-of c) .pre) (after-aim-of c .aim-of .ensures) (e .0), e .1)
 
 pub hand-over-spec : {M : Type 1} → statement M
 hand-over-spec =
