@@ -10,19 +10,29 @@ use lib.ListN.{getD}
 use Rattle.decide.specs.Choose.{choose}
 use Rattle.decide.specs.Decides.{Decides}
 use Rattle.decide.proofs.DecideLaws.{decides-lt}
+use Rattle.method.specs.Numbers.{mostCells}
 use Rattle.method.specs.Graph.{Move, move}
-use Rattle.plan.specs.Directions.{rowStep, columnStep, opposite}
+use Rattle.plan.specs.Directions.{shiftOf, rowStep, columnStep, opposite}
 use Rattle.plan.specs.Cells.{Size, row, column, Stands, Stays, stays, entered}
 use Rattle.plan.specs.Costs.{Plan, cells, byte, shut, IsCost, isCost, IsByte, Bytes, Obeys}
 use Rattle.plan.specs.Grid.{outBy, intoBy}
 use Rattle.plan.specs.Reached.{At, Placed}
+use Rattle.plan.specs.declared.Shift.{Shift}
 use Rattle.plan.specs.declared.Spot.{Spot}
 use Rattle.plan.proofs.DirectionLaws.{opposes}
 use Rattle.plan.proofs.CellLaws.{stands, stands-row, stands-column, row-lt, entered-sum, enters, stays-back}
 
 -- a step is at most 2 (plus 1), so its part of a sum is small
-pub row-part : (width d : ℕ) → width ≤ 64 → d < 4 → rowStep d * width ≤ 128
+row-part : (width d : ℕ) → width ≤ 64 → d < 4 → rowStep d * width ≤ 128
 row-part width d l ld = let h : rowStep d ≤ 2 = omega (arith, opposes d ld .rows) in mul-le-mul h l
+
+-- the sum of a cell and a direction's step, by the table: at most 4,096, 2 rows of 64 and 2 columns
+module _ (width s d : ℕ) {step : Shift} (e : step ≡ shiftOf d) where
+  pub step-sum : s + step .row * width + step .column ≡ s + rowStep d * width + columnStep d
+  step-sum = ap (λ x. s + x .row * width + x .column) e
+
+  pub step-sum-le : width ≤ 64 → s < mostCells → d < 4 → s + step .row * width + step .column ≤ 4226
+  step-sum-le l ls ld = omega (arith, step-sum, row-part width d l ld, opposes d ld .columns)
 
 pub area : {width height : ℕ} → Size width height → height * width ≤ 4096
 area z = mul-le-mul (z .low) (z .narrow)

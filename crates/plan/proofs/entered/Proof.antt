@@ -1,11 +1,10 @@
 -- The plain sums of the definition, by the table; each step is at most 2, so no sum wraps.
 use borrow.Author.Needs.{needs}
-use mathlib.Core.Path.{_≡_, ap}
+use mathlib.Core.Path.{_≡_}
 use Prim.Native.Nat.{_+_, _*_, _≤_}
 use native.Mathlib.Omega.{arith}
 use Rattle.plan.specs.Directions.{rowStep, columnStep}
-use Rattle.plan.proofs.DirectionLaws.{opposes}
-use Rattle.plan.proofs.MoveLaws.{row-part}
+use Rattle.plan.proofs.MoveLaws.{step-sum, step-sum-le}
 use Rattle.plan.proofs.entered.Statement.{statement}
 use Rattle.plan.proofs.entered.Tie as tie
 
@@ -13,10 +12,10 @@ use Rattle.plan.proofs.entered.Tie as tie
 sum-is : (t : tie.After-shift-of)
     → let a = t .before .args in
     a .cell + t .shift-of .result .row * a .width + t .shift-of .result .column ≡ a .cell + rowStep (a .d) * a .width + columnStep (a .d)
-sum-is t = let a = t .before .args in ap (λ x. a .cell + x .row * a .width + x .column) (t .shift-of .ensures)
+sum-is t = step-sum _ _ _ (t .shift-of .ensures)
 
 sum-le : (t : tie.After-shift-of) → let a = t .before .args in a .cell + t .shift-of .result .row * a .width + t .shift-of .result .column ≤ 4226
-sum-le t = let p = t .before .pre in omega (arith, sum-is t, p .1 .1, row-part _ _ (p .1 .0) (p .0), opposes _ (p .0) .columns)
+sum-le t = let p = t .before .pre in step-sum-le _ _ _ (t .shift-of .ensures) (p .1 .0) (p .1 .1) (p .0)
 
 shift-of-requires : tie.Need-shift-of-requires
 shift-of-requires c κs = search needs

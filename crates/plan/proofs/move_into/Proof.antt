@@ -1,11 +1,10 @@
 -- By what the sum names (MoveLaws): no cell, or one whose byte towards s is shut, and there is no open move; else it is the neighbour, and its byte is the cost.
 use borrow.Author.Needs.{needs}
-use mathlib.Core.Path.{_≡_, ap}
+use mathlib.Core.Path.{_≡_}
 use Prim.Native.Nat.{_+_, _*_, _≤_}
 use native.Mathlib.Omega.{arith}
 use Rattle.plan.specs.Directions.{rowStep, columnStep}
-use Rattle.plan.proofs.DirectionLaws.{opposes}
-use Rattle.plan.proofs.MoveLaws.{area, row-part, into-shut, into-closed, into-open, sum-long, entered-in}
+use Rattle.plan.proofs.MoveLaws.{area, step-sum, step-sum-le, into-shut, into-closed, into-open, sum-long, entered-in}
 use Rattle.plan.proofs.move_into.Statement.{statement}
 use Rattle.plan.proofs.move_into.Tie as tie
 
@@ -23,12 +22,12 @@ after-back-if-open t = t .before .before .before
 sum-is : (t : tie.After-shift-of)
     → let a = t .before .before .args in
     a .s + t .shift-of .result .row * a .width + t .shift-of .result .column ≡ a .s + rowStep (a .d) * a .width + columnStep (a .d)
-sum-is t = let a = t .before .before .args in ap (λ x. a .s + x .row * a .width + x .column) (t .shift-of .ensures)
+sum-is t = step-sum _ _ _ (t .shift-of .ensures)
 
 sum-le : (t : tie.After-shift-of) → let a = t .before .before .args in a .s + t .shift-of .result .row * a .width + t .shift-of .result .column ≤ 4226
 sum-le t =
     let p = t .before .before .pre in
-    omega (arith, sum-is t, row-part _ _ (p .0 .size .narrow) (p .1 .1), p .1 .0, area (p .0 .size), opposes _ (p .1 .1) .columns)
+    step-sum-le _ _ _ (t .shift-of .ensures) (p .0 .size .narrow) (omega (arith, p .1 .0, area (p .0 .size))) (p .1 .1)
 
 shift-of-requires : tie.Need-shift-of-requires
 shift-of-requires c κs = search needs

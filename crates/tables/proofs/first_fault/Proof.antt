@@ -28,50 +28,53 @@ Inv-cells s plan g rhs parent k1 k2 place list cells aim at₀ fault₀ u₀ at 
 abbrev μ-cells : tie.MeasureT-cells
 μ-cells s plan g rhs parent k1 k2 place list cells aim at₀ fault₀ u₀ at fault u = cells - u
 
-abbrev at-start : tie.After-numbers-hold Inv-loop μ-loop Inv-cells μ-cells → tie.Start Inv-loop μ-loop Inv-cells μ-cells
-at-start t = t .before .before .before .before .before .before .before .before .before
+abbrev at-entry : tie.After-shared-slice-known8 Inv-loop μ-loop Inv-cells μ-cells → tie.Start Inv-loop μ-loop Inv-cells μ-cells
+at-entry t = t .before .before .before .before .before .before .before .before
 
 -- where the record's numbers are right
 abbrev numbers-right : tie.At-cells Inv-loop μ-loop Inv-cells μ-cells → tie.Else1 Inv-loop μ-loop Inv-cells μ-cells
 numbers-right t = t .before .before .before
 
+abbrev at-start : tie.At-cells Inv-loop μ-loop Inv-cells μ-cells → tie.Start Inv-loop μ-loop Inv-cells μ-cells
+at-start t = at-entry (numbers-right t .before .before)
+
 -- the cell at hand, while its moves are looked at
 abbrev in-cells : tie.At-loop Inv-loop μ-loop Inv-cells μ-cells → tie.In-cells Inv-loop μ-loop Inv-cells μ-cells
 in-cells t = t .before .before .before .before
 
-numbers : (t : tie.At-cells Inv-loop μ-loop Inv-cells μ-cells) → Numbers (at-start (numbers-right t .before) .args .s)
+numbers : (t : tie.At-cells Inv-loop μ-loop Inv-cells μ-cells) → Numbers (at-start t .args .s)
 numbers t = numbers-right t .before .numbers-hold .ensures .so (not-false _ (numbers-right t .if1 .left))
 
 -- every rule before the cell at hand holds
 rules-before : (t : tie.At-cells Inv-loop μ-loop Inv-cells μ-cells)
-    → let a = at-start (numbers-right t .before) .args in
+    → let a = at-start t .args in
     RulesBefore (a .s) (tables (a .plan .now) (a .g .now) (a .rhs .now) (a .parent .now) (a .k1 .now) (a .k2 .now) (a .place .now) (a .list .now)) (t .cells .u)
 rules-before t = record { numbers = numbers t; each-cell = t .cells .inv .3 }
 
 -- the cell at hand holds by itself
 alone : (t : tie.Else2 Inv-loop μ-loop Inv-cells μ-cells)
-    → let a = at-start (numbers-right (t .before .before .before) .before) .args in
+    → let a = at-start (t .before .before .before) .args in
     AloneIn (a .s) (tables (a .plan .now) (a .g .now) (a .rhs .now) (a .parent .now) (a .k1 .now) (a .k2 .now) (a .place .now) (a .list .now)) (t .before .before .before .cells .u)
 alone t = t .before .alone-holds .ensures .so (not-false _ (t .if2 .left))
 
 numbers-hold-requires : tie.Need-numbers-hold-requires Inv-loop μ-loop Inv-cells μ-cells
-numbers-hold-requires c κs = c .before .before .before .before .before .before .before .before .pre .0
+numbers-hold-requires c κs = at-entry c .pre .0
 
 returns : tie.Need-returns Inv-loop μ-loop Inv-cells μ-cells
 returns c = in-record (refuted (c .before .numbers-hold .ensures) (not-true _ (c .if1 .taken)))
 
 mul-cells : tie.Need-mul-cells Inv-loop μ-loop Inv-cells μ-cells
-mul-cells c = omega (arith, area (at-start (c .before .before) .pre .0))
+mul-cells c = omega (arith, area (at-entry (c .before .before .before) .pre .0))
 
 spot-of-requires : tie.Need-spot-of-requires Inv-loop μ-loop Inv-cells μ-cells
-spot-of-requires c κs = at-start (c .before .before) .pre .0 .wide
+spot-of-requires c κs = at-entry (c .before .before .before) .pre .0 .wide
 
 cells-holds : tie.Need-cells-holds Inv-loop μ-loop Inv-cells μ-cells
-cells-holds c = (omega arith, refl, record { column-lt = at-start (c .before .before .before) .pre .0 .wide; is = omega arith }, λ v l. absurd (omega arith))
+cells-holds c = (omega arith, refl, record { column-lt = at-entry (c .before .before .before .before) .pre .0 .wide; is = omega arith }, λ v l. absurd (omega arith))
 
 alone-holds-requires : tie.Need-alone-holds-requires Inv-loop μ-loop Inv-cells μ-cells
 alone-holds-requires c κs =
-    let p = at-start (numbers-right (c .before) .before) .pre in
+    let p = at-start (c .before) .pre in
     let f = p .1 in
     record {
       cell = record {
@@ -90,12 +93,12 @@ alone-holds-requires c κs =
 mul-x : tie.Need-mul-x Inv-loop μ-loop Inv-cells μ-cells
 mul-x c =
     let u = c .before .before in
-    omega (arith, u .cells-test .taken, area (at-start (numbers-right (u .before) .before) .pre .0))
+    omega (arith, u .cells-test .taken, area (at-start (u .before) .pre .0))
 
 shared-slice-read-x : tie.Need-shared-slice-read-x Inv-loop μ-loop Inv-cells μ-cells
 shared-slice-read-x c =
     let u = c .before .before .before in
-    omega (arith, u .cells-test .taken, at-start (numbers-right (u .before) .before) .pre .1 .g)
+    omega (arith, u .cells-test .taken, at-start (u .before) .pre .1 .g)
 
 loop-holds : tie.Need-loop-holds Inv-loop μ-loop Inv-cells μ-cells
 loop-holds c = (omega arith, c .before .before .before .before .cells .inv .1, λ e l. absurd (omega arith))
@@ -103,7 +106,7 @@ loop-holds c = (omega arith, c .before .before .before .before .cells .inv .1, �
 way-holds-requires : tie.Need-way-holds-requires Inv-loop μ-loop Inv-cells μ-cells
 way-holds-requires c κs =
     let u = in-cells (c .before) in
-    let p = at-start (numbers-right (u .before) .before) .pre in
+    let p = at-start (u .before) .pre in
     record {
       size = p .0;
       long-plan = p .1 .plan;
@@ -128,14 +131,14 @@ loop-again c =
 onward-requires : tie.Need-onward-requires Inv-loop μ-loop Inv-cells μ-cells
 onward-requires c κs =
     let u = in-cells (c .before) in
-    let z = at-start (numbers-right (u .before) .before) .pre .0 in
+    let z = at-start (u .before) .pre .0 in
     let a = u .before .cells .inv .2 in
     (spot-placed z a (u .cells-test .taken) .row, a .column-lt, z .narrow)
 
 add-u : tie.Need-add-u Inv-loop μ-loop Inv-cells μ-cells
 add-u c =
     let u = in-cells (c .before .before) in
-    omega (arith, u .cells-test .taken, area (at-start (numbers-right (u .before) .before) .pre .0))
+    omega (arith, u .cells-test .taken, area (at-start (u .before) .pre .0))
 
 cells-less : tie.Need-cells-less Inv-loop μ-loop Inv-cells μ-cells
 cells-less c = omega (arith, in-cells (c .before .before) .cells-test .taken)
