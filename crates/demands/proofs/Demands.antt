@@ -7,7 +7,7 @@ use native.Mathlib.Omega.{arith}
 use native.Mathlib.Decide.{ℕ-discrete}
 use lib.ListN.{length}
 use Rattle.decide.proofs.ChooseLaws.{differ}
-use Rattle.method.specs.Numbers.{mostSearches}
+use Rattle.method.specs.Numbers.{renewal}
 use Rattle.method.specs.Graph.{GraphLaws}
 use Rattle.method.specs.Session as calls
 use Rattle.method.specs.Sound as method-sound
@@ -189,7 +189,7 @@ demand-1-exactly = record {
 -- ---- a search with nothing to write
 
 -- The hunter stays, nothing starts fresh, and no step is taken: no table is written, list and places neither, whether the search answers or is refused.
-pub search-untouched : {s : Session} {t t′ : Tables} (way : List ℕ) {way′ : List ℕ} {r : Outcome} → Searches s t way r t′ way′ → s .hunter ≡ s .origin → s .searches ≢ mostSearches
+pub search-untouched : {s : Session} {t t′ : Tables} (way : List ℕ) {way′ : List ℕ} {r : Outcome} → Searches s t way r t′ way′ → s .hunter ≡ s .origin → s .searches ≢ renewal
     → stepsOf s t ≡ [] → (r .session .count ≡ s .count) × (t′ ≡ t)
 search-untouched {s} {t} {t′} way {r = r} P h m e = at (ℕ-discrete (P .number) 0)
   where

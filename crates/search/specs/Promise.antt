@@ -4,7 +4,7 @@ use mathlib.Core.Logic.{_≢_}
 use mathlib.Core.List.{List, [], _++_}
 use Prim.Native.Nat.{ℕ, _≤_}
 use lib.ListN.{length, getD, drop}
-use Rattle.method.specs.Numbers.{infinite, mostSearches}
+use Rattle.method.specs.Numbers.{infinite, renewal}
 use Rattle.method.specs.Session as method
 use Rattle.queue.specs.Queue.{Heap, EntryKept}
 use Rattle.tables.specs.declared.Session.{Session}
@@ -38,9 +38,9 @@ pub record Searched (s : Session) (t : Tables) (way : List ℕ) (r : Outcome) (t
   pub heap : Heap (s .width) (cells s) (r .session .count) (t′ .k1) (t′ .k2) (t′ .place) (t′ .list)
   pub shown : way′ ≡ written (cellsOf (outcome s t .answer)) way
   pub caught : s .hunter ≡ s .target → (r .session ≡ s) × (t′ ≡ t)
-  pub untouched : s .hunter ≡ s .origin → s .searches ≢ mostSearches → outcome s t .steps ≡ [] → (r .session .count ≡ s .count) × (t′ ≡ t)
+  pub untouched : s .hunter ≡ s .origin → s .searches ≢ renewal → outcome s t .steps ≡ [] → (r .session .count ≡ s .count) × (t′ ≡ t)
   -- no steps, and nothing starts fresh: where the old hunter's entry, found anew, is what it was, list and places stay
-  pub kept : s .searches ≢ mostSearches → getD (t .rhs) (s .hunter) 0 ≢ infinite → outcome s t .steps ≡ []
+  pub kept : s .searches ≢ renewal → getD (t .rhs) (s .hunter) 0 ≢ infinite → outcome s t .steps ≡ []
       → EntryKept (s .count) (t .k1) (t .k2) (t .place) (t .list) (r .session .count) (t′ .k1) (t′ .k2) (t′ .place) (t′ .list)
 
 -- A refused search returns the record as it came and changes no table.

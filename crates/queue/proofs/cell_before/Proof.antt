@@ -1,6 +1,5 @@
 -- Each return is one case of the order: k1 differs, k2 differs, or the tie.
 use mathlib.Core.Path.{sym, _∙_}
-use borrow.Author.Needs.{needs}
 use Rattle.queue.specs.Order.{before}
 use Rattle.queue.proofs.OrderLaws.{less-eq, less-ne}
 use borrow.Author.Needs.{needs}
