@@ -93,7 +93,11 @@ module _ {a : Aim} {count : ℕ} {g rhs k1 k2 place list : List ℕ} (C : Choosi
 
       -- the least stored key is below the target's calculated key
       pub chosen-short : r ≡ true → Chosen a g rhs k1 k2 place (On u)
-      chosen-short e = goes (λ plan parent l. inl (rw lesser-is (ltb-true (method.keyNumber (getD k1 u 0) (getD k2 u 0)) (method.keyNumber (method.firstKey (hunt a plan) (a .target) (getD rhs (a .target) 0)) (getD rhs (a .target) 0)) (sym (short plan) ∙ e))))
+      chosen-short e =
+          goes (λ plan parent l. inl (rw lesser-is (ltb-true
+          (method.keyNumber (getD k1 u 0) (getD k2 u 0))
+          (method.keyNumber (method.firstKey (hunt a plan) (a .target) (getD rhs (a .target) 0)) (getD rhs (a .target) 0))
+          (sym (short plan) ∙ e))))
 
       -- neither: the search has ended
       pub chosen-done : r ≡ false → Chosen a g rhs k1 k2 place Done
@@ -108,8 +112,12 @@ module _ {a : Aim} {count : ℕ} {g rhs k1 k2 place list : List ℕ} (C : Choosi
               let q = least-one (laws plan) (core (tables plan g rhs parent k1 k2 place l)) (area a) u (least-here plan parent l) in
               cc
 
-          behind : method.keyNumber (method.firstKey (hunt a plan) (a .target) (min (getD g (a .target) 0) (getD rhs (a .target) 0))) (min (getD g (a .target) 0) (getD rhs (a .target) 0)) ≤ method.keyNumber (getD k1 u 0) (getD k2 u 0)
-          behind = rw lesser-is (ltb-false (method.keyNumber (getD k1 u 0) (getD k2 u 0)) (method.keyNumber (method.firstKey (hunt a plan) (a .target) (getD rhs (a .target) 0)) (getD rhs (a .target) 0)) (sym (short plan) ∙ e))
+          behind : method.calculatedKey (hunt a plan) T (a .target) ≤ method.keyNumber (getD k1 u 0) (getD k2 u 0)
+          behind =
+              rw lesser-is (ltb-false
+              (method.keyNumber (getD k1 u 0) (getD k2 u 0))
+              (method.keyNumber (method.firstKey (hunt a plan) (a .target) (getD rhs (a .target) 0)) (getD rhs (a .target) 0))
+              (sym (short plan) ∙ e))
 
           not-on : {v : ℕ} → v ≡ u → Continues (hunt a plan) (core (tables plan g rhs parent k1 k2 place l)) v → ⊥
           not-on q (inl x) = omega (arith, behind, ap (λ x. method.storedKey (core (tables plan g rhs parent k1 k2 place l)) x) q, x)

@@ -177,7 +177,11 @@ module _ {a : Aim} {plan : List ℕ} (A : Aimed a plan) where
       queued-is =
           ap (λ (T : method.Tables). T .queued) (fresh-became .is)
           ∙ ap (λ (T : method.Tables). T .queued) (choose-no (ℕ-discrete (getD (replicate (area a) infinite) (a .hunter) 0) (getD (set (replicate (area a) infinite) (a .hunter) 0) (a .hunter) 0)) _ _
-          (λ e. omega (arith, getD-replicate {A = ℕ} (area a) (a .hunter) infinite 0 (A .hunter-in), getD-set-same (replicate (area a) infinite) (a .hunter) 0 0 (omega (arith, A .hunter-in, length-replicate {A = ℕ} (area a) infinite)))))
+          (λ e. omega (
+            arith,
+            getD-replicate {A = ℕ} (area a) (a .hunter) infinite 0 (A .hunter-in),
+            getD-set-same (replicate (area a) infinite) (a .hunter) 0 0 (omega (arith, A .hunter-in, length-replicate {A = ℕ} (area a) infinite)),
+          )))
 
       pub fresh-count : count ≡ 1
       fresh-count = sym (counted (area a) count place′ list′ (fresh-became .heap .tables .agree)) ∙ ap tally queued-is ∙ tally-one (area a) (a .hunter) (A .hunter-in)

@@ -1,3 +1,4 @@
+-- Refused with the number that `table_refusal` found and nothing changed; else the tables are sound and `change_sound` keeps the promise.
 use native.Mathlib.Omega.{arith}
 use mathlib.Core.Path.{refl}
 use Rattle.session.proofs.RefusalLaws.{refusal-told, table-number, tables-granted}

@@ -1,3 +1,4 @@
+-- Refused with the number that `move_refusal` found and nothing changed; else the move can be worked in (`change-granted` in RefusalLaws), which `work_in` does.
 use mathlib.Core.Path.{refl}
 use Rattle.session.proofs.RefusalLaws.{refusal-told, done-told, sound-rules}
 use Rattle.change.proofs.RefusalLaws.{change-granted}

@@ -1,3 +1,4 @@
+-- Each return is a case of what a changed move asks (EffectLaws).
 use native.Mathlib.Omega.{arith}
 use Rattle.change.proofs.EffectLaws.{asked-own, asked-falls, asked-high, asked-level, asked-other, asked-rises}
 use borrow.Author.Needs.{needs}

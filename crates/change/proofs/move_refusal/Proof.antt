@@ -1,3 +1,4 @@
+-- The rules of a move in their order: the cell and the direction by the tests here, each other rule by the promise of the function that asks it.
 use Rattle.decide.proofs.DecideLaws.{refuted}
 use borrow.Author.Tests.{not-true, not-false}
 use Rattle.session.specs.Refusals.{fails, holds, passed}

@@ -1,3 +1,4 @@
+-- Each return is a case of the method's `nextCell`: the queue is empty, rhs of the target is above its g, the least key is below the target's, or neither (ChoiceLaws).
 use native.Mathlib.Omega.{arith}
 use Rattle.plan.proofs.MoveLaws.{area}
 use Rattle.choices.proofs.ChoiceLaws.{chosen-empty, chosen-in, chosen-over, chosen-short, chosen-done}

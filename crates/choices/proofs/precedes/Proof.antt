@@ -1,3 +1,4 @@
+-- The order of keys as one number, by the first numbers or by the second (KeyLaws).
 use native.Mathlib.Omega.{arith}
 use Rattle.choices.proofs.KeyLaws.{key-first, key-second}
 use Rattle.choices.proofs.precedes.Statement.{statement}

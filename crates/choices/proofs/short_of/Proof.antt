@@ -1,3 +1,4 @@
+-- The target's calculated key, infinite or not (ChoiceLaws).
 use native.Mathlib.Omega.{arith}
 use Rattle.choices.proofs.ChoiceLaws.{goal-infinite, goal-finite}
 use borrow.Author.Needs.{needs}

@@ -1,3 +1,4 @@
+-- The stored key against the key that `first_key` calculates (`stale-is` in KeyLaws).
 use Rattle.entries.proofs.EntryLaws.{spots-placed, key-room}
 use Rattle.choices.proofs.KeyLaws.{stale-is}
 use borrow.Author.Needs.{needs}

@@ -1,3 +1,4 @@
+-- After d directions the best is the method's least over their moves; after four it is over all (`looked-more`, `looked-all` in AnewLaws).
 use mathlib.Core.Path.{_≡_, refl}
 use Prim.Native.Nat.{_≤_, _-_}
 use native.Mathlib.Omega.{arith}

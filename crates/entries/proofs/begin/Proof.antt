@@ -1,3 +1,4 @@
+-- The record of a fresh start, and the tables that `fresh` leaves (`begun-by`, `opened-by` in BeginLaws).
 use mathlib.Core.Path.{refl}
 use Rattle.entries.proofs.BeginLaws.{begun-by, begin-ready, opened-by}
 use borrow.Author.Needs.{needs}

@@ -1,3 +1,4 @@
+-- What `anew` finds, taken by `take`: the method's `foundAnew` (FoundLaws).
 use Rattle.entries.proofs.FoundLaws.{findable, taking, found-small, became-as, anew-is}
 use borrow.Author.Needs.{needs}
 use Rattle.entries.proofs.found_anew.Statement.{statement}

@@ -1,3 +1,4 @@
+-- Each return is a case of the method's `better`, over what `move_into` answers of the move (AnewLaws).
 use native.Mathlib.Omega.{arith}
 use Rattle.plan.proofs.MoveLaws.{area}
 use Rattle.entries.proofs.AnewLaws.{said-shut, said-to, looked-shut, looked-left, looked-taken, neighbour-in, finite-small}

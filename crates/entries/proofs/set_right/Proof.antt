@@ -1,3 +1,4 @@
+-- The entry left absent, taken out, put in, or put under its key: each is the method's `setRight`, by the queue's promise (EntryLaws).
 use mathlib.Core.Path.{refl}
 use native.Mathlib.Omega.{arith}
 use Rattle.entries.proofs.EntryLaws.{spots-placed, key-room, heap-here, right-absent, right-out, right-in, kept-in, kept-out}

@@ -1,3 +1,4 @@
+-- The three kinds of step, each by the promise of the function that takes it and its case of the method's `stepped` (StepLaws).
 use borrow.Author.Needs.{needs}
 use native.Mathlib.Omega.{arith}
 use Rattle.plan.proofs.MoveLaws.{area}
