@@ -4,13 +4,14 @@ use mathlib.Core.Logic.{_≢_}
 use mathlib.Core.List.{List}
 use Prim.Native.Nat.{ℕ, _+_}
 use Rattle.method.specs.Tables as method
-use Rattle.method.specs.Session.{huntOf, moveChanged}
+use Rattle.method.specs.Session as calls
 use Rattle.queue.specs.Queue.{Heap, EntryKept}
 use Rattle.plan.specs.Directions.{opposite}
 use Rattle.plan.specs.Cells.{entered}
-use Rattle.plan.specs.Costs.{byte, withByte}
+use Rattle.plan.specs.Costs.{Plan, byte, withByte}
+use Rattle.plan.specs.Grid.{graphOf}
 use Rattle.tables.specs.declared.Session.{Session}
-use Rattle.tables.specs.Lent.{Tables, tables, cells, floor, graph, session, core}
+use Rattle.tables.specs.Lent.{Tables, tables, cells, floor, session, core}
 use Rattle.tables.specs.Told.{toldNumber}
 use Rattle.change.specs.Effects.{Touches}
 use Rattle.session.specs.declared.Reply.{Reply}
@@ -39,10 +40,14 @@ backCode d = opposite d + 1
 abbrev pub oldCost : Session → Tables → ℕ → ℕ → ℕ
 oldCost s t u d = byte (floor s (t .plan)) u d
 
--- What the method makes of a changed move, on the plan as it then is.
+-- What the method makes of its tables T where the move of a plan from cell u in direction d gets this cost: on the plan as it then is.
+abbrev pub changedOver : Plan → calls.Session → method.Tables → ℕ → ℕ → ℕ → method.Tables
+changedOver p σ T u d cost =
+    calls.moveChanged (calls.huntOf (graphOf (withByte p u d cost)) σ) T (entered (p .width) u d) (backCode d) u (byte p u d) cost
+
+-- So of a session's own tables.
 abbrev pub methodChange : Session → Tables → ℕ → ℕ → ℕ → method.Tables
-methodChange s t u d cost =
-    moveChanged (huntOf (graph s (withPlan t (replanned s t u d cost))) (session s)) (core t) (enteredCell s u d) (backCode d) u (oldCost s t u d) cost
+methodChange s t u d cost = changedOver (floor s (t .plan)) (session s) (core t) u d cost
 
 -- The change is worked in: the byte is set, the tables t became the method's, with a true heap of `count` cells. Where the cell entered is not written, only the byte changed;
 -- where its entry is set right to what it is already, list and places stay.

@@ -1,6 +1,6 @@
 -- The actions of a drill, one after the other: what each leaves, and the line that it prints.
 use mathlib.Core.List.{List, [], _∷_, _++_}
-use Prim.Native.Nat.{ℕ, _+_}
+use Prim.Native.Nat.{ℕ}
 use native.Mathlib.Decide.{ℕ-discrete, decLt}
 use Rattle.decide.specs.Choose.{choose}
 use Rattle.method.specs.Tables as method
@@ -8,11 +8,10 @@ use Rattle.method.specs.Graph.{Hunt}
 use Rattle.method.specs.Steps.{Kind, stepped}
 use Rattle.method.specs.Loop.{Step}
 use Rattle.method.specs.Session as method-session
-use Rattle.plan.specs.Directions.{opposite}
-use Rattle.plan.specs.Cells.{entered}
-use Rattle.plan.specs.Costs.{Plan, cells, byte, withByte}
+use Rattle.plan.specs.Costs.{Plan, cells, withByte}
 use Rattle.plan.specs.Grid.{graphOf}
 use Rattle.answer.specs.Answer.{answerOf, cellsOf}
+use Rattle.change.specs.Promise.{changedOver}
 use Rattle.search.specs.Promise.{written}
 use Rattle.drill_file.specs.declared.Action.{Action}
 use Rattle.drill_file.specs.declared.Action.the-variants.{Change, Hunter, Target, Search, Bad}
@@ -30,10 +29,7 @@ standing p σ T = record { plan = p; session = σ; tables = T }
 
 -- A changed move: the byte, and what the method makes of it on the plan as it then is.
 abbrev pub changed : Standing → ℕ → ℕ → ℕ → Standing
-changed S u d cost =
-    standing (withByte (S .plan) u d cost) (S .session)
-    (method-session.moveChanged (method-session.huntOf (graphOf (withByte (S .plan) u d cost)) (S .session)) (S .tables)
-    (entered (S .plan .width) u d) (opposite d + 1) u (byte (S .plan) u d) cost)
+changed S u d cost = standing (withByte (S .plan) u d cost) (S .session) (changedOver (S .plan) (S .session) (S .tables) u d cost)
 
 -- What an action leaves, the cells that it writes into the way list, and the line that it prints, if any.
 pub record Turn : Type 0 where

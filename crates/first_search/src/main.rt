@@ -1,8 +1,10 @@
 // The library in a few lines: three rooms in a row, the way from the first to the last, and none once the door to the last is shut.
 use answer::Answer;
 use change;
+use plan::SHUT;
 use search;
 use session;
+use tables::Session;
 
 // Prints a word and a number.
 fn say_number(word: &[u8], n: u64) {
@@ -24,9 +26,29 @@ fn say(answer: Answer) {
     io::write_all(1, b"\n");
 }
 
-// Opens, searches, shuts the move from room 1 to the east (1), and searches again.
+// Searches, prints the answer, and returns the record for the next call.
+fn seek(
+    s: Session,
+    plan: &[u8],
+    g: &mut [u32],
+    rhs: &mut [u32],
+    parent: &mut [u8],
+    k1: &mut [u32],
+    k2: &mut [u32],
+    place: &mut [u16],
+    list: &mut [u16],
+    way: &mut [u16],
+) -> Session {
+    let found = search::search(s, plan, g, rhs, parent, k1, k2, place, list, way);
+    let answer = found.answer;
+    say(answer);
+    found.session
+}
+
+// Opens, searches, shuts the move from room 1 to the east (1), and searches again. The plan has four bytes a room, from north to west;
+// what the tables hold at first does not matter, since open fills them.
 fn main() {
-    let mut plan = [255u8, 1, 255, 255, 255, 1, 255, 1, 255, 255, 255, 1];
+    let mut plan = [SHUT, 1, SHUT, SHUT, SHUT, 1, SHUT, 1, SHUT, SHUT, SHUT, 1];
     let mut g = [0u32; 3];
     let mut rhs = [0u32; 3];
     let mut parent = [0u8; 3];
@@ -49,7 +71,7 @@ fn main() {
         &mut place,
         &mut list,
     );
-    let first = search::search(
+    let first = seek(
         opened.session,
         &plan,
         &mut g,
@@ -61,9 +83,8 @@ fn main() {
         &mut list,
         &mut way,
     );
-    say(first.answer);
     let shut = change::change_move(
-        first.session,
+        first,
         &mut plan,
         &g,
         &mut rhs,
@@ -74,9 +95,9 @@ fn main() {
         &mut list,
         1,
         1,
-        255,
+        SHUT,
     );
-    let second = search::search(
+    seek(
         shut.session,
         &plan,
         &mut g,
@@ -88,5 +109,4 @@ fn main() {
         &mut list,
         &mut way,
     );
-    say(second.answer);
 }

@@ -3,7 +3,10 @@ use drill_file;
 use drill_file::Trailer;
 use libc::STDIN_FILENO;
 use opening;
+use plan::SHUT;
 use printing;
+use queue::ABSENT;
+use tables::INFINITE;
 ghost use mathlib.Core.Path.{_≡_};
 ghost use Prim.Native.Nat.{_≤_};
 ghost use lib.ListN.{length, take};
@@ -123,15 +126,15 @@ fn run_input(fd: i32, name: &[u8]) {
         return;
     }
     let mut count = [0usize; 1];
-    let mut plan = [255u8; 16384];
-    let mut g = [4294967295u32; 4096];
-    let mut rhs = [4294967295u32; 4096];
+    let mut plan = [SHUT; 16384];
+    let mut g = [INFINITE; 4096];
+    let mut rhs = [INFINITE; 4096];
     let mut parent = [0u8; 4096];
     let mut k1 = [0u32; 4096];
     let mut k2 = [0u32; 4096];
-    let mut place = [65535u16; 4096];
-    let mut list = [65535u16; 4096];
-    let mut way = [65535u16; 4096];
+    let mut place = [ABSENT; 4096];
+    let mut list = [ABSENT; 4096];
+    let mut way = [ABSENT; 4096];
     let mut text = [0u8; 65536];
     run_file(
         &input,
