@@ -77,6 +77,13 @@ abbrev Settled : Session → Tables → ℕ → ℕ → ℕ → ℕ → Asked �
 Settled s t u d cost v Keeps = Unit {0}
 Settled s t u d cost v (Takes w f) = (w ≡ v) × ((f .rhs ≡ infinite) ⊎ (f .rhs ≤ mostRhs)) × Touches (s .origin) (t .g) (t .rhs) (t .parent) v (backCode d) u (oldCost s t u d) cost
 
+-- A change that is worked in: no rule refuses it, v is the cell entered, k the move's code there, and r what it asks.
+pub record Working (s : Session) (t : Tables) (u d cost v k : ℕ) (r : Asked) : Type 0 where
+  pub workable : Workable s t u d cost
+  pub cell-is : v ≡ enteredCell s u d
+  pub code-is : k ≡ backCode d
+  pub asks : Asks s (replanned s t u d cost) (t .g) (t .rhs) (t .parent) v k u (oldCost s t u d) cost r
+
 module _ {s : Session} {t : Tables} {u d cost : ℕ} (W : Workable s t u d cost) where
   -- ---- before the change
 
@@ -128,58 +135,65 @@ module _ {s : Session} {t : Tables} {u d cost : ℕ} (W : Workable s t u d cost)
         (refl, sum-small l c (sound-small-g (W .sound) u) (sound-small-rhs (W .sound) v), (n, inl (f, l)))
     settled (rises n f l) = (refl, anew-small (floor s (replanned s t u d cost)) obeys-after (t .g) (sound-small-g (W .sound)) v, (n, inr (f, l)))
 
-    module _ {k : ℕ} (ek : k ≡ backCode d) {r : Asked} (a₀ : Asks s (replanned s t u d cost) (t .g) (t .rhs) (t .parent) v k u (oldCost s t u d) cost r) where
-      A : Asking s t u d cost v r
-      A = subst (λ x. Asks s (replanned s t u d cost) (t .g) (t .rhs) (t .parent) v x u (oldCost s t u d) cost r) ek a₀
+module _ {s : Session} {t : Tables} {u d cost v k : ℕ} {r : Asked} (Z : Working s t u d cost v k r) where
+  W : Workable s t u d cost
+  W = Z .workable
 
-      -- the cell keeps its numbers: only the byte changed
-      pub kept-worked : r ≡ Keeps → WorkedIn s t u d cost (s .count) (withPlan t (replanned s t u d cost))
-      kept-worked q = record {
-        plan = refl;
-        is = ap (obeyed (huntAfter s t u d cost) (core t)) (sym q) ∙ asked-is A;
-        heap = W .sound .heap;
-        untouched = λ _. (refl, refl);
-        kept = λ _ _ _. (refl, refl, refl);
-      }
+  asks : Asking s t u d cost v r
+  asks = subst (λ x. Asks s (replanned s t u d cost) (t .g) (t .rhs) (t .parent) v x u (oldCost s t u d) cost r) (Z .code-is) (Z .asks)
 
-      module _ {w : ℕ} {f : Found} (q : r ≡ Takes w f) where
-        here : Settled s t u d cost v (Takes w f)
-        here = subst (Settled s t u d cost v) q (settled A)
+  as-method : obeyed (huntAfter s t u d cost) (core t) r ≡ methodChange s t u d cost
+  as-method = asked-is W (Z .cell-is) asks
 
-        -- it can take what is asked
-        pub asked-taking : {a : Aim} {at : Spot} → AimOf s a → At (s .width) w at → Taking a (s .count) w at f (t .g) (t .rhs) (t .parent) (t .k1) (t .k2) (t .place) (t .list)
-        asked-taking {a} O stands =
-            taking
-            (ready-of O
-            (record {
-              ready = record {
-                aimed = record {
-                  obeys = obeys-after;
-                  hunter-in = W .sound .numbers .origin-in;
-                  target-in = W .sound .numbers .goal-in;
-                  target-at = O .target-at;
-                  km-le = omega (arith, W .sound .numbers .km-le, W .sound .numbers .searches-le);
-                };
-                held = sound-held (W .sound) (replanned s t u d cost) (a .row) (a .column);
-                small-g = sound-small-g (W .sound);
-                small-rhs = sound-small-rhs (W .sound);
-              };
-              inside = entered-in (here .0 ∙ ev);
-              stands = stands;
-            }))
-            (here .1)
+  -- the cell keeps its numbers: only the byte changed
+  pub kept-worked : r ≡ Keeps → WorkedIn s t u d cost (s .count) (withPlan t (replanned s t u d cost))
+  kept-worked q = record {
+    plan = refl;
+    is = ap (obeyed (huntAfter s t u d cost) (core t)) (sym q) ∙ as-method;
+    heap = W .sound .heap;
+    untouched = λ _. (refl, refl);
+    kept = λ _ _ _. (refl, refl, refl);
+  }
 
-        -- and took it
-        pub taken-worked : {a : Aim} {count : ℕ} {rhs′ parent′ k1′ k2′ place′ list′ : List ℕ} → AimOf s a
-            → Taken a w f (t .g) (t .rhs) (t .parent) (t .k1) (t .k2) (t .place) (t .list) count rhs′ parent′ k1′ k2′ place′ list′
-            → EntryKept (s .count) (t .k1) (t .k2) (t .place) (t .list) count k1′ k2′ place′ list′
-            → WorkedIn s t u d cost count (tables (replanned s t u d cost) (t .g) rhs′ parent′ k1′ k2′ place′ list′)
-        taken-worked {a} {count} {rhs′} {parent′} {k1′} {k2′} {place′} {list′} O T K =
-            let B = became-of {t = tables (replanned s t u d cost) (t .g) rhs′ parent′ k1′ k2′ place′ list′} (λ x. obeyed (hunt x (replanned s t u d cost)) (core t) (Takes w f)) O (T .became (replanned s t u d cost)) in
-            record {
-              plan = refl;
-              is = B .is ∙ ap (obeyed (huntAfter s t u d cost) (core t)) (sym q) ∙ asked-is A;
-              heap = B .heap;
-              untouched = λ n. absurd (n (touches-at (here .2)));
-              kept = K;
-            }
+  module _ {w : ℕ} {f : Found} (q : r ≡ Takes w f) where
+    here : Settled s t u d cost v (Takes w f)
+    here = subst (Settled s t u d cost v) q (settled W (Z .cell-is) asks)
+
+    -- it can take what is asked
+    pub asked-taking : {a : Aim} {at : Spot} → AimOf s a → At (s .width) w at → Taking a (s .count) w at f (t .g) (t .rhs) (t .parent) (t .k1) (t .k2) (t .place) (t .list)
+    asked-taking {a} O stands =
+        taking
+        (ready-of O
+        (record {
+          ready = record {
+            aimed = record {
+              obeys = obeys-after W;
+              hunter-in = W .sound .numbers .origin-in;
+              target-in = W .sound .numbers .goal-in;
+              target-at = O .target-at;
+              km-le = omega (arith, W .sound .numbers .km-le, W .sound .numbers .searches-le);
+            };
+            held = sound-held (W .sound) (replanned s t u d cost) (a .row) (a .column);
+            small-g = sound-small-g (W .sound);
+            small-rhs = sound-small-rhs (W .sound);
+          };
+          inside = entered-in W (here .0 ∙ Z .cell-is);
+          stands = stands;
+        }))
+        (here .1)
+
+    -- and took it
+    pub taken-worked : {a : Aim} {count : ℕ} {rhs′ parent′ k1′ k2′ place′ list′ : List ℕ} → AimOf s a
+        → Taken a w f (t .g) (t .rhs) (t .parent) (t .k1) (t .k2) (t .place) (t .list) count rhs′ parent′ k1′ k2′ place′ list′
+        → EntryKept (s .count) (t .k1) (t .k2) (t .place) (t .list) count k1′ k2′ place′ list′
+        → WorkedIn s t u d cost count (tables (replanned s t u d cost) (t .g) rhs′ parent′ k1′ k2′ place′ list′)
+    taken-worked {a} {count} {rhs′} {parent′} {k1′} {k2′} {place′} {list′} O T K =
+        let plan = replanned s t u d cost in
+        let B = became-of {t = tables plan (t .g) rhs′ parent′ k1′ k2′ place′ list′} (λ x. obeyed (hunt x plan) (core t) (Takes w f)) O (T .became plan) in
+        record {
+          plan = refl;
+          is = B .is ∙ ap (obeyed (huntAfter s t u d cost) (core t)) (sym q) ∙ as-method;
+          heap = B .heap;
+          untouched = λ n. absurd (n (touches-at W (Z .cell-is) (here .2)));
+          kept = K;
+        }

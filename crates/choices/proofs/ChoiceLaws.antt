@@ -47,7 +47,8 @@ goal-finite a y p q g n d plan = d ∙ ap (λ x. ltb (method.keyNumber p q) (met
 -- ---- the queue's least cell is the method's
 
 -- a cell that the method has before another, the queue has before it
-queue-before : (a : Aim) (plan g rhs parent k1 k2 place list : List ℕ) → Words k2 → (s u : ℕ) → Before (graphOf (floor a plan)) (core (tables plan g rhs parent k1 k2 place list)) s u → before (a .width) k1 k2 s u ≡ true
+queue-before : (a : Aim) (plan g rhs parent k1 k2 place list : List ℕ) → Words k2
+    → (s u : ℕ) → Before (graphOf (floor a plan)) (core (tables plan g rhs parent k1 k2 place list)) s u → before (a .width) k1 k2 s u ≡ true
 unfolding before tied
 queue-before a plan g rhs parent k1 k2 place list w s u (inl x) = at (decLt (getD k1 s 0) (getD k1 u 0))
   where
@@ -60,7 +61,14 @@ queue-before a plan g rhs parent k1 k2 place list w s u (inl x) = at (decLt (get
 queue-before a plan g rhs parent k1 k2 place list w s u (inr x) =
     less-eq (getD k1 s 0) (getD k1 u 0) _ (omega (arith, x .0, w s, w u)) ∙ less-eq (getD k2 s 0) (getD k2 u 0) _ (omega (arith, x .0, w s, w u)) ∙ x .1
 
-module _ {a : Aim} {count : ℕ} {g rhs k1 k2 place list : List ℕ} (C : Choosing a count g rhs k1 k2 place list) (w : Words k2) where
+-- The queue is not empty, and u is its least cell.
+pub record Leading (a : Aim) (count : ℕ) (g rhs k1 k2 place list : List ℕ) (u : ℕ) : Type 0 where
+  pub choosing : Choosing a count g rhs k1 k2 place list
+  pub words : Words k2
+  pub some : 0 < count
+  pub least : LeastOf list u
+
+module _ {a : Aim} {count : ℕ} {g rhs k1 k2 place list : List ℕ} (C : Choosing a count g rhs k1 k2 place list) where
   laws : (plan : List ℕ) → GraphLaws (graphOf (floor a plan))
   laws plan = graph-laws (floor a plan) (C .size)
 
@@ -70,55 +78,55 @@ module _ {a : Aim} {count : ℕ} {g rhs k1 k2 place list : List ℕ} (C : Choosi
       sym (next-none (hunt a plan) (laws plan) (core (tables plan g rhs parent k1 k2 place l))
       (λ u F c. let m = member-place place u (F .queued) in m .1 (C .heap .tables .agree .gone u (F .u-in) (omega arith))))
 
-  module _ (u : ℕ) (some : 0 < count) (L : LeastOf list u) where
-    pub chosen-in : u < area a
-    chosen-in = least-place (C .heap) some L .0
+module _ {a : Aim} {count u : ℕ} {g rhs k1 k2 place list : List ℕ} (L : Leading a count g rhs k1 k2 place list u) where
+  pub chosen-in : u < area a
+  chosen-in = least-place (L .choosing .heap) (L .some) (L .least) .0
 
-    least-here : (plan parent l : List ℕ) → LeastCell (graphOf (floor a plan)) (core (tables plan g rhs parent k1 k2 place l)) (area a) u
-    least-here plan parent l =
-        least-cell (laws plan) (core (tables plan g rhs parent k1 k2 place l)) (area a) u chosen-in (least-of (C .heap) some L .member)
-        (λ s m q b. true≢false (sym (queue-before a plan g rhs parent k1 k2 place l w s u b) ∙ least-of (C .heap) some L .first s q))
+  least-here : (plan parent l : List ℕ) → LeastCell (graphOf (floor a plan)) (core (tables plan g rhs parent k1 k2 place l)) (area a) u
+  least-here plan parent l =
+      least-cell (laws (L .choosing) plan) (core (tables plan g rhs parent k1 k2 place l)) (area a) u chosen-in (least-of (L .choosing .heap) (L .some) (L .least) .member)
+      (λ s m q b. true≢false (sym (queue-before a plan g rhs parent k1 k2 place l (L .words) s u b) ∙ least-of (L .choosing .heap) (L .some) (L .least) .first s q))
 
-    goes : ((plan parent l : List ℕ) → Continues (hunt a plan) (core (tables plan g rhs parent k1 k2 place l)) u) → Chosen a g rhs k1 k2 place (On u)
-    goes f plan parent l = sym (next-some (hunt a plan) (laws plan) (core (tables plan g rhs parent k1 k2 place l)) u (least-here plan parent l) (f plan parent l))
+  goes : ((plan parent l : List ℕ) → Continues (hunt a plan) (core (tables plan g rhs parent k1 k2 place l)) u) → Chosen a g rhs k1 k2 place (On u)
+  goes f plan parent l = sym (next-some (hunt a plan) (laws (L .choosing) plan) (core (tables plan g rhs parent k1 k2 place l)) u (least-here plan parent l) (f plan parent l))
 
-    -- rhs of the target is above its g
-    pub chosen-over : getD g (a .target) 0 < getD rhs (a .target) 0 → Chosen a g rhs k1 k2 place (On u)
-    chosen-over h = goes (λ plan parent l. inr h)
+  -- rhs of the target is above its g
+  pub chosen-over : getD g (a .target) 0 < getD rhs (a .target) 0 → Chosen a g rhs k1 k2 place (On u)
+  chosen-over h = goes (λ plan parent l. inr h)
 
-    module _ {r : Bool} (level : getD rhs (a .target) 0 ≤ getD g (a .target) 0)
-        (short : (plan : List ℕ) → r ≡ ltb (method.keyNumber (getD k1 u 0) (getD k2 u 0)) (method.keyNumber (method.firstKey (hunt a plan) (a .target) (getD rhs (a .target) 0)) (getD rhs (a .target) 0))) where
-      lesser-is : min (getD g (a .target) 0) (getD rhs (a .target) 0) ≡ getD rhs (a .target) 0
-      lesser-is = omega arith
+  module _ {r : Bool} (level : getD rhs (a .target) 0 ≤ getD g (a .target) 0)
+      (short : (plan : List ℕ) → r ≡ ltb (method.keyNumber (getD k1 u 0) (getD k2 u 0)) (method.keyNumber (method.firstKey (hunt a plan) (a .target) (getD rhs (a .target) 0)) (getD rhs (a .target) 0))) where
+    lesser-is : min (getD g (a .target) 0) (getD rhs (a .target) 0) ≡ getD rhs (a .target) 0
+    lesser-is = omega arith
 
-      -- the least stored key is below the target's calculated key
-      pub chosen-short : r ≡ true → Chosen a g rhs k1 k2 place (On u)
-      chosen-short e =
-          goes (λ plan parent l. inl (rw lesser-is (ltb-true
-          (method.keyNumber (getD k1 u 0) (getD k2 u 0))
-          (method.keyNumber (method.firstKey (hunt a plan) (a .target) (getD rhs (a .target) 0)) (getD rhs (a .target) 0))
-          (sym (short plan) ∙ e))))
+    -- the least stored key is below the target's calculated key
+    pub chosen-short : r ≡ true → Chosen a g rhs k1 k2 place (On u)
+    chosen-short e =
+        goes (λ plan parent l. inl (rw lesser-is (ltb-true
+        (method.keyNumber (getD k1 u 0) (getD k2 u 0))
+        (method.keyNumber (method.firstKey (hunt a plan) (a .target) (getD rhs (a .target) 0)) (getD rhs (a .target) 0))
+        (sym (short plan) ∙ e))))
 
-      -- neither: the search has ended
-      pub chosen-done : r ≡ false → Chosen a g rhs k1 k2 place Done
-      chosen-done e plan parent l = sym (next-none (hunt a plan) (laws plan) T (λ v F c. not-on (same v F) c))
-        where
-          T : method.Tables
-          T = core (tables plan g rhs parent k1 k2 place l)
+    -- neither: the search has ended
+    pub chosen-done : r ≡ false → Chosen a g rhs k1 k2 place Done
+    chosen-done e plan parent l = sym (next-none (hunt a plan) (laws (L .choosing) plan) T (λ v F c. not-on (same v F) c))
+      where
+        T : method.Tables
+        T = core (tables plan g rhs parent k1 k2 place l)
 
-          same : (v : ℕ) → LeastCell (graphOf (floor a plan)) (core (tables plan g rhs parent k1 k2 place l)) (area a) v → v ≡ u
-          same v F =
-              let p = least-one (laws plan) (core (tables plan g rhs parent k1 k2 place l)) (area a) v F in
-              let q = least-one (laws plan) (core (tables plan g rhs parent k1 k2 place l)) (area a) u (least-here plan parent l) in
-              cc
+        same : (v : ℕ) → LeastCell (graphOf (floor a plan)) (core (tables plan g rhs parent k1 k2 place l)) (area a) v → v ≡ u
+        same v F =
+            let p = least-one (laws (L .choosing) plan) (core (tables plan g rhs parent k1 k2 place l)) (area a) v F in
+            let q = least-one (laws (L .choosing) plan) (core (tables plan g rhs parent k1 k2 place l)) (area a) u (least-here plan parent l) in
+            cc
 
-          behind : method.calculatedKey (hunt a plan) T (a .target) ≤ method.keyNumber (getD k1 u 0) (getD k2 u 0)
-          behind =
-              rw lesser-is (ltb-false
-              (method.keyNumber (getD k1 u 0) (getD k2 u 0))
-              (method.keyNumber (method.firstKey (hunt a plan) (a .target) (getD rhs (a .target) 0)) (getD rhs (a .target) 0))
-              (sym (short plan) ∙ e))
+        behind : method.calculatedKey (hunt a plan) T (a .target) ≤ method.keyNumber (getD k1 u 0) (getD k2 u 0)
+        behind =
+            rw lesser-is (ltb-false
+            (method.keyNumber (getD k1 u 0) (getD k2 u 0))
+            (method.keyNumber (method.firstKey (hunt a plan) (a .target) (getD rhs (a .target) 0)) (getD rhs (a .target) 0))
+            (sym (short plan) ∙ e))
 
-          not-on : {v : ℕ} → v ≡ u → Continues (hunt a plan) (core (tables plan g rhs parent k1 k2 place l)) v → ⊥
-          not-on q (inl x) = omega (arith, behind, ap (λ x. method.storedKey (core (tables plan g rhs parent k1 k2 place l)) x) q, x)
-          not-on q (inr x) = omega arith
+        not-on : {v : ℕ} → v ≡ u → Continues (hunt a plan) (core (tables plan g rhs parent k1 k2 place l)) v → ⊥
+        not-on q (inl x) = omega (arith, behind, ap (λ x. method.storedKey (core (tables plan g rhs parent k1 k2 place l)) x) q, x)
+        not-on q (inr x) = omega arith

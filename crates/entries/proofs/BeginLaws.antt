@@ -24,7 +24,8 @@ module _ {width height hunter target : ℕ} {t : Tables} {a : Aim} (o : Openable
   pub begin-ready : (Aimed a (t .plan) × (a .km ≡ 0)) × Fits (area a) t
   begin-ready = ((aimed O (o .obeys) (o .hunter-in) (o .target-in) (omega arith), ap (λ x. x .km) (O .is)), subst (λ x. Fits (area x) t) (sym (O .is)) (o .fits))
 
-  pub opened-by : {count : ℕ} {t′ : Tables} → t′ .plan ≡ t .plan → Became a count t′ (fresh (graphOf (floor a (t .plan))) (a .hunter) (a .target)) → count ≡ 1 → Opened width height hunter target t t′
+  pub opened-by : {count : ℕ} {t′ : Tables} → t′ .plan ≡ t .plan
+      → Became a count t′ (fresh (graphOf (floor a (t .plan))) (a .hunter) (a .target)) → count ≡ 1 → Opened width height hunter target t t′
   opened-by q B e =
       let b = became-of (λ x. fresh (graphOf (floor x (t .plan))) (x .hunter) (x .target)) O B in
       record { plan = q; is = b .is; heap = heap-as (b .heap) refl e }

@@ -50,6 +50,9 @@ module _ {a : Aim} {count cell : ℕ} {at : Spot} {g rhs k1 k2 place list : List
   place-long : cell < length place
   place-long = omega (arith, E .sited .inside, E .heap .tables .agree .lengthPlace)
 
+  pub cell-listed : cell < length list
+  cell-listed = omega (arith, E .sited .inside, E .heap .tables .agree .lengthList)
+
   -- the heap, as the queue's calls take it
   pub heap-here : Heap (a .width) (length list) count k1 k2 place list
   heap-here = heap-as (E .heap) (sym (E .heap .tables .agree .lengthList)) refl
@@ -64,7 +67,7 @@ module _ {a : Aim} {count cell : ℕ} {at : Spot} {g rhs k1 k2 place list : List
   -- a cell that is put in or taken out: its entry is not what it was
   module _ {r first second : ℕ} {q : Bool} {k1′ k2′ place′ list′ : List ℕ} (C : Changed (a .width) (length list) r cell first second q k1 k2 place k1′ k2′ place′ list′) where
     was : members place′ ≡ members place → getD (members place) cell false ≡ q
-    was = changed-nothing C (E .heap .tables .agree .lengthPlace ∙ sym (E .heap .tables .agree .lengthList)) (omega (arith, E .sited .inside, E .heap .tables .agree .lengthList))
+    was = changed-nothing C (E .heap .tables .agree .lengthPlace ∙ sym (E .heap .tables .agree .lengthList)) cell-listed
 
     pub kept-in : q ≡ true → getD place cell 0 ≡ absent → EntryKept count k1 k2 place list r k1′ k2′ place′ list′
     kept-in t o _ _ e = absurd (true≢false (sym (was e ∙ t) ∙ member-at place cell place-long ∙ missing o))

@@ -39,7 +39,34 @@ use Rattle.steps.specs.Ready.{Facing, Obeying, Obeyed, Lowering, Steppin
 pub became-held : {a : Aim} {count : ℕ} {t : Tables} {m : method.Tables} → method.Sized (area a) m → Became a count t m → Held a count t
 became-held {a} z B = record { sized = subst (method.Sized (area a)) (sym (B .is)) z; heap = B .heap }
 
--- .. which kept plan and g, and left rhs that leave room for a sum
+-- tables held for one aim have the same lengths
+pub record Lengths (t t′ : Tables) : Type 0 where
+  pub g : length (t .g) ≡ length (t′ .g)
+  pub rhs : length (t .rhs) ≡ length (t′ .rhs)
+  pub parent : length (t .parent) ≡ length (t′ .parent)
+  pub k1 : length (t .k1) ≡ length (t′ .k1)
+  pub k2 : length (t .k2) ≡ length (t′ .k2)
+  pub place : length (t .place) ≡ length (t′ .place)
+  pub list : length (t .list) ≡ length (t′ .list)
+
+pub same-lengths : {a : Aim} {count n : ℕ} {t t′ : Tables} → Held a count t → Held a n t′ → Lengths t t′
+same-lengths H K = record {
+  g = H .sized .g ∙ sym (K .sized .g);
+  rhs = H .sized .rhs ∙ sym (K .sized .rhs);
+  parent = H .sized .parent ∙ sym (K .sized .parent);
+  k1 = H .sized .k1 ∙ sym (K .sized .k1);
+  k2 = H .sized .k2 ∙ sym (K .sized .k2);
+  place = H .heap .tables .agree .lengthPlace ∙ sym (K .heap .tables .agree .lengthPlace);
+  list = H .heap .tables .agree .lengthList ∙ sym (K .heap .tables .agree .lengthList);
+}
+
+-- what holds after d directions of a step, where the method has m
+pub record Looked (a : Aim) (n d : ℕ) (t : Tables) (m : method.Tables) : Type 0 where
+  pub few : d ≤ 4
+  pub is : core t ≡ m
+  pub ready : Ready a mostRhs n t
+
+-- tables of an inner function which kept plan and g, and left rhs that leave room for a sum
 pub ready-after : {a : Aim} {count n : ℕ} {plan g rhs parent k1 k2 place list rhs′ parent′ k1′ k2′ place′ list′ : List ℕ} {m : method.Tables}
     → Ready a mostRhs count (tables plan g rhs parent k1 k2 place list) → method.Sized (area a) m → Became a n (tables plan g rhs′ parent′ k1′ k2′ place′ list′) m → Small mostRhs rhs′
     → Ready a mostRhs n (tables plan g rhs′ parent′ k1′ k2′ place′ list′)
@@ -127,11 +154,13 @@ module _ {a : Aim} {count : ℕ} {at : Spot} {d : ℕ} {r : Asked} {g rhs parent
 
 -- ---- the directions of a step, one after the other
 
-pub relaxed-more : (H : Hunt) (v : ℕ) (T : method.Tables) (m : ℕ → List Move) (d : ℕ) {U E : method.Tables} → U ≡ relaxedAll H v T (upTo m d) → E ≡ relaxedAll H v U (m d) → E ≡ relaxedAll H v T (upTo m (d + 1))
+pub relaxed-more : (H : Hunt) (v : ℕ) (T : method.Tables) (m : ℕ → List Move) (d : ℕ) {U E : method.Tables}
+    → U ≡ relaxedAll H v T (upTo m d) → E ≡ relaxedAll H v U (m d) → E ≡ relaxedAll H v T (upTo m (d + 1))
 unfolding upTo
 relaxed-more H v T m d e q = q ∙ rw (e, add-one, relaxedAll-append) refl
 
-pub renewed-more : (H : Hunt) (T : method.Tables) (m : ℕ → List Move) (d : ℕ) {U E : method.Tables} → U ≡ renewedAll H T (upTo m d) → E ≡ renewedAll H U (m d) → E ≡ renewedAll H T (upTo m (d + 1))
+pub renewed-more : (H : Hunt) (T : method.Tables) (m : ℕ → List Move) (d : ℕ) {U E : method.Tables}
+    → U ≡ renewedAll H T (upTo m d) → E ≡ renewedAll H U (m d) → E ≡ renewedAll H T (upTo m (d + 1))
 unfolding upTo
 renewed-more H T m d e q = q ∙ rw (e, add-one, renewedAll-append) refl
 

@@ -10,17 +10,17 @@ use Rattle.change.proofs.change_sound.Tie as tie
 abbrev at-start-for-move-refusal : tie.After-slice-known7 → tie.Start
 at-start-for-move-refusal c = c .before .before .before .before .before .before .before .before
 
-abbrev at-start-from-move-refusal : tie.After-move-refusal → tie.Start
-at-start-from-move-refusal c = at-start-for-move-refusal (c .before)
+abbrev at-start : tie.After-move-refusal → tie.Start
+at-start c = at-start-for-move-refusal (c .before)
 
-abbrev else-1-for-work-in : tie.After-work-in-arg7 → tie.Else1
-else-1-for-work-in c = c .before .before .before .before .before .before .before
+abbrev granted-for-work-in : tie.After-work-in-arg7 → tie.Else1
+granted-for-work-in c = c .before .before .before .before .before .before .before
 
 abbrev after-work-in : tie.After-slice-known14 → tie.After-work-in
 after-work-in c = c .before .before .before .before .before .before .before .before .before .before .before .before .before .before
 
-abbrev else-1 : tie.After-slice-known14 → tie.Else1
-else-1 c = else-1-for-work-in (after-work-in c .before)
+abbrev granted : tie.After-slice-known14 → tie.Else1
+granted c = granted-for-work-in (after-work-in c .before)
 
 move-refusal-requires : tie.Need-move-refusal-requires
 move-refusal-requires c κs = at-start-for-move-refusal c .pre .plan .size
@@ -28,7 +28,7 @@ move-refusal-requires c κs = at-start-for-move-refusal c .pre .plan .size
 returns : tie.Need-returns
 returns c = record {
   number = c .before .move-refusal .result;
-  rules = sound-rules (at-start-from-move-refusal (c .before) .pre) (c .before .move-refusal .ensures);
+  rules = sound-rules (at-start (c .before) .pre) (c .before .move-refusal .ensures);
   answer = refusal-told _ (c .if1 .taken);
   refused = λ _. (refl, refl);
   done = λ z. absurd (c .if1 .taken z);
@@ -36,9 +36,8 @@ returns c = record {
 
 work-in-requires : tie.Need-work-in-requires
 work-in-requires c κs =
-    change-granted
-    (sound-rules (at-start-from-move-refusal (else-1-for-work-in c .before) .pre) (else-1-for-work-in c .before .move-refusal .ensures))
-    (else-1-for-work-in c .if1 .left)
+    let g = granted-for-work-in c in
+    change-granted (sound-rules (at-start (g .before) .pre) (g .before .move-refusal .ensures)) (g .if1 .left)
 
 same-length : tie.Need-same-length
 same-length c = search needs
@@ -63,10 +62,10 @@ same-length-7 c = search needs
 
 returns-2 : tie.Need-returns-2
 returns-2 c = record {
-  number = else-1 c .before .move-refusal .result;
-  rules = sound-rules (at-start-from-move-refusal (else-1 c .before) .pre) (else-1 c .before .move-refusal .ensures);
-  answer = done-told _ (else-1 c .if1 .left);
-  refused = λ n. absurd (n (else-1 c .if1 .left));
+  number = granted c .before .move-refusal .result;
+  rules = sound-rules (at-start (granted c .before) .pre) (granted c .before .move-refusal .ensures);
+  answer = done-told _ (granted c .if1 .left);
+  refused = λ n. absurd (n (granted c .if1 .left));
   done = λ _. (refl, after-work-in c .work-in .ensures);
 }
 

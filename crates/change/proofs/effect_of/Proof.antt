@@ -31,18 +31,16 @@ sum-of-requires : tie.Need-sum-of-requires
 sum-of-requires c κs = search needs
 
 cast-if3 : tie.Need-cast-if3
-cast-if3 c = omega (arith, after-shared-slice-known3 c .shared-slice-known3 .given (after-shared-slice-known3 c .before .before .before .args .v))
+cast-if3 c = let s = after-shared-slice-known3 c in omega (arith, s .shared-slice-known3 .given (s .before .before .before .args .v))
 
 cast-t25 : tie.Need-cast-t25
 cast-t25 c =
-    omega (
-      arith,
-      c .if3 .taken,
-      after-shared-slice-known3 (c .before) .shared-slice-known3 .given (after-shared-slice-known3 (c .before) .before .before .before .args .v),
-    )
+    let s = after-shared-slice-known3 (c .before) in omega (arith, c .if3 .taken, s .shared-slice-known3 .given (s .before .before .before .args .v))
 
 returns-2 : tie.Need-returns-2
-returns-2 c = asked-falls (c .before .before .before .if1 .left) (c .before .before .if2 .taken) (c .before .sum-of .ensures) (c .if3 .taken)
+returns-2 c =
+    let falls = c .before .before in
+    asked-falls (falls .before .if1 .left) (falls .if2 .taken) (c .before .sum-of .ensures) (c .if3 .taken)
 
 returns-3 : tie.Need-returns-3
 returns-3 c = asked-high (c .before .before .if2 .taken) (c .before .sum-of .ensures) (c .if3 .left)
@@ -58,12 +56,10 @@ anew-requires c κs = search needs
 
 returns-6 : tie.Need-returns-6
 returns-6 c =
-    asked-rises
-    (c .before .before .before .before .if1 .left)
-    (c .before .before .before .if2 .left)
-    (c .before .before .if4 .left)
-    (c .before .if5 .left)
-    (c .anew .ensures)
+    let child = c .before in
+    let rises = child .before in
+    let no-fall = rises .before in
+    asked-rises (no-fall .before .if1 .left) (no-fall .if2 .left) (rises .if4 .left) (child .if5 .left) (c .anew .ensures)
 
 pub effect-of-spec : {M : Type 1} → statement M
 effect-of-spec =

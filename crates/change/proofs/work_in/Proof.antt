@@ -1,42 +1,40 @@
 -- The byte is set; what the change asks of the cell entered is done, by `take`, or nothing is (WorkLaws).
-use Rattle.change.proofs.WorkLaws.{entering-sum, deciding, kept-worked, asked-taking, taken-worked}
+use Rattle.tables.specs.Lent.{Tables, tables}
+use Rattle.change.proofs.WorkLaws.{Working, entering-sum, deciding, kept-worked, asked-taking, taken-worked}
 use borrow.Author.Needs.{needs}
 use Rattle.change.proofs.work_in.Statement.{statement}
 use Rattle.change.proofs.work_in.Tie as tie
 
 -- The places that the answers look back to.
-abbrev at-start-for-entered : tie.After-slice-known7 → tie.Start
-at-start-for-entered c = c .before .before .before .before .before .before .before .before
+abbrev at-start : tie.After-back-code → tie.Start
+at-start b = b .before .before .before .before .before .before .before .before .before .before
 
-abbrev at-start-from-back-code : tie.After-back-code → tie.Start
-at-start-from-back-code c = at-start-for-entered (c .before .before)
-
-abbrev after-back-code-for-effect-of : tie.After-effect-of-arg3 → tie.After-back-code
-after-back-code-for-effect-of c = c .before .before .before .before
-
-abbrev after-back-code-from-effect-of : tie.After-effect-of → tie.After-back-code
-after-back-code-from-effect-of c = after-back-code-for-effect-of (c .before)
-
-abbrev after-back-code-from-aim-of : tie.After-aim-of → tie.After-back-code
-after-back-code-from-aim-of c = after-back-code-from-effect-of (c .before .before .before .before)
-
-abbrev at-start-from-aim-of : tie.After-aim-of → tie.Start
-at-start-from-aim-of c = at-start-from-back-code (after-back-code-from-aim-of c)
+abbrev after-back-code : tie.After-effect-of-arg3 → tie.After-back-code
+after-back-code c = c .before .before .before .before
 
 abbrev after-spot-of : tie.After-take-arg6 → tie.After-spot-of
 after-spot-of c = c .before .before .before .before .before .before
 
-abbrev after-aim-of : tie.After-take-arg6 → tie.After-aim-of
-after-aim-of c = after-spot-of c .before
-
 abbrev after-take : tie.After-slice-known14 → tie.After-take
 after-take c = c .before .before .before .before .before .before .before .before .before .before .before .before
 
-abbrev after-aim-of-for-returns-2 : tie.After-slice-known14 → tie.After-aim-of
-after-aim-of-for-returns-2 c = after-aim-of (after-take c .before)
+-- The tables as the change gets them.
+abbrev got : tie.Start → Tables
+got x =
+    tables (x .args .plan .now) (x .args .g .now) (x .args .rhs .now) (x .args .parent .now) (x .args .k1 .now) (x .args .k2 .now) (x .args .place .now)
+    (x .args .list .now)
+
+-- What the change asks is known.
+working : (e : tie.After-effect-of)
+    → let b = after-back-code (e .before) in
+    let x = at-start b in
+    Working (x .args .s) (got x) (x .args .u) (x .args .d) (x .args .cost) (b .before .entered .result) (b .back-code .result) (e .effect-of .result)
+working e =
+    let b = after-back-code (e .before) in
+    record { workable = at-start b .pre; cell-is = b .before .entered .ensures; code-is = b .back-code .ensures; asks = e .effect-of .ensures }
 
 entered-requires : tie.Need-entered-requires
-entered-requires c κs = entering-sum (at-start-for-entered c .pre)
+entered-requires c κs = entering-sum (c .before .before .before .before .before .before .before .before .pre)
 
 back-code-requires : tie.Need-back-code-requires
 back-code-requires c κs = search needs
@@ -54,8 +52,7 @@ slice-write-plan : tie.Need-slice-write-plan
 slice-write-plan c = search needs
 
 effect-of-requires : tie.Need-effect-of-requires
-effect-of-requires c κs =
-    deciding (at-start-from-back-code (after-back-code-for-effect-of c) .pre) (after-back-code-for-effect-of c .before .entered .ensures)
+effect-of-requires c κs = let b = after-back-code c in deciding (at-start b .pre) (b .before .entered .ensures)
 
 enum-known-asked : tie.Need-enum-known-asked
 enum-known-asked c = search needs
@@ -73,13 +70,7 @@ same-length-3 : tie.Need-same-length-3
 same-length-3 c = search needs
 
 returns : tie.Need-returns
-returns c =
-    kept-worked
-    (at-start-from-back-code (after-back-code-from-effect-of (c .before .before)) .pre)
-    (after-back-code-from-effect-of (c .before .before) .before .entered .ensures)
-    (after-back-code-from-effect-of (c .before .before) .back-code .ensures)
-    (c .before .before .effect-of .ensures)
-    (c .enum-told .given .1)
+returns c = kept-worked (working (c .before .before)) (c .enum-told .given .1)
 
 aim-of-requires : tie.Need-aim-of-requires
 aim-of-requires c κs = search needs
@@ -89,14 +80,9 @@ spot-of-requires c κs = search needs
 
 take-requires : tie.Need-take-requires
 take-requires c κs =
-    asked-taking
-    (at-start-from-aim-of (after-aim-of c) .pre)
-    (after-back-code-from-aim-of (after-aim-of c) .before .entered .ensures)
-    (after-back-code-from-aim-of (after-aim-of c) .back-code .ensures)
-    (after-aim-of c .before .before .before .before .effect-of .ensures)
-    (after-aim-of c .before .before .asked .given .1)
-    (after-aim-of c .aim-of .ensures)
-    (after-spot-of c .spot-of .ensures)
+    let s = after-spot-of c in
+    let asked = s .before .before .before in
+    asked-taking (working (asked .before .before)) (asked .asked .given .1) (s .before .aim-of .ensures) (s .spot-of .ensures)
 
 same-length-4 : tie.Need-same-length-4
 same-length-4 c = search needs
@@ -122,15 +108,9 @@ same-length-10 c = search needs
 returns-2 : tie.Need-returns-2
 returns-2 c =
     let e = after-take c .take .ensures in
-    taken-worked
-    (at-start-from-aim-of (after-aim-of-for-returns-2 c) .pre)
-    (after-back-code-from-aim-of (after-aim-of-for-returns-2 c) .before .entered .ensures)
-    (after-back-code-from-aim-of (after-aim-of-for-returns-2 c) .back-code .ensures)
-    (after-aim-of-for-returns-2 c .before .before .before .before .effect-of .ensures)
-    (after-aim-of-for-returns-2 c .before .before .asked .given .1)
-    (after-aim-of-for-returns-2 c .aim-of .ensures)
-    (e .0)
-    (e .1)
+    let s = after-spot-of (after-take c .before) in
+    let asked = s .before .before .before in
+    taken-worked (working (asked .before .before)) (asked .asked .given .1) (s .before .aim-of .ensures) (e .0) (e .1)
 
 pub work-in-spec : {M : Type 1} → statement M
 work-in-spec =

@@ -1,33 +1,31 @@
 -- Each return is a case of the method's `nextCell`: the queue is empty, rhs of the target is above its g, the least key is below the target's, or neither (ChoiceLaws).
 use native.Mathlib.Omega.{arith}
 use Rattle.plan.proofs.MoveLaws.{area}
-use Rattle.choices.proofs.ChoiceLaws.{chosen-empty, chosen-in, chosen-over, chosen-short, chosen-done}
+use Rattle.choices.proofs.ChoiceLaws.{Leading, chosen-empty, chosen-in, chosen-over, chosen-short, chosen-done}
 use borrow.Author.Needs.{needs}
 use Rattle.choices.proofs.chosen.Statement.{statement}
 use Rattle.choices.proofs.chosen.Tie as tie
 
 -- The places that the answers look back to.
-abbrev after-shared-slice-known4-from-then-1 : tie.Then1 → tie.After-shared-slice-known4
-after-shared-slice-known4-from-then-1 c = c .before .before .before
-
 abbrev after-least : tie.Else2 → tie.After-least
 after-least c = c .before .before .before
 
-abbrev after-shared-slice-known4 : tie.Else2 → tie.After-shared-slice-known4
-after-shared-slice-known4 c = after-least c .before .before .before .before
+abbrev at-start : tie.After-least → tie.Start
+at-start l = l .before .before .before .before .before .before .before .before
 
-abbrev after-shared-slice-known4-from-then-2 : tie.Then2 → tie.After-shared-slice-known4
-after-shared-slice-known4-from-then-2 c = c .before .before .before .before .before .before .before
-
-abbrev at-start : tie.Else2 → tie.Start
-at-start c = after-shared-slice-known4 c .before .before .before .before
+-- The queue is not empty, and the cell asked for is its least.
+leading : (l : tie.After-least)
+    → Leading (at-start l .args .a) (at-start l .args .count) (at-start l .args .g .now) (at-start l .args .rhs .now) (at-start l .args .k1 .now) (at-start l .args .k2 .now)
+    (at-start l .args .place .now) (at-start l .args .list .now) (l .least .result)
+leading l = record {
+  choosing = at-start l .pre;
+  words = λ i. omega (arith, l .before .before .before .before .shared-slice-known4 .given i);
+  some = omega (arith, l .before .if1 .left);
+  least = l .least .ensures;
+}
 
 returns : tie.Need-returns
-returns c =
-    chosen-empty
-    (after-shared-slice-known4-from-then-1 c .before .before .before .before .pre)
-    (λ i. omega (arith, after-shared-slice-known4-from-then-1 c .shared-slice-known4 .given i))
-    (c .if1 .taken)
+returns c = chosen-empty (c .before .before .before .before .before .before .before .pre) (c .if1 .taken)
 
 least-requires : tie.Need-least-requires
 least-requires c κs = search needs
@@ -45,93 +43,33 @@ shared-slice-read-y : tie.Need-shared-slice-read-y
 shared-slice-read-y c = search needs
 
 returns-2 : tie.Need-returns-2
-returns-2 c =
-    chosen-over
-    (after-shared-slice-known4-from-then-2 c .before .before .before .before .pre)
-    (λ i. omega (arith, after-shared-slice-known4-from-then-2 c .shared-slice-known4 .given i))
-    _
-    (omega (arith, c .before .before .before .before .if1 .left))
-    (c .before .before .before .least .ensures)
-    (c .if2 .taken)
+returns-2 c = chosen-over (leading (c .before .before .before)) (c .if2 .taken)
 
 mul-short-of : tie.Need-mul-short-of
-mul-short-of c =
-    let C = at-start c .pre in
-    omega (
-      arith,
-      chosen-in C
-          (λ i. omega (arith, after-shared-slice-known4 c .shared-slice-known4 .given i))
-          _
-          (omega (arith, after-least c .before .if1 .left))
-          (after-least c .least .ensures),
-      area (C .size),
-    )
+mul-short-of c = let l = after-least c in omega (arith, chosen-in (leading l), area (at-start l .pre .size))
 
 shared-slice-read-short-of : tie.Need-shared-slice-read-short-of
-shared-slice-read-short-of c =
-    let C = at-start (c .before) .pre in
-    omega (
-      arith,
-      chosen-in C
-          (λ i. omega (arith, after-shared-slice-known4 (c .before) .shared-slice-known4 .given i))
-          _
-          (omega (arith, after-least (c .before) .before .if1 .left))
-          (after-least (c .before) .least .ensures),
-      C .heap .tables .length1,
-    )
+shared-slice-read-short-of c = let l = after-least (c .before) in omega (arith, chosen-in (leading l), at-start l .pre .heap .tables .length1)
 
 mul-short-of-2 : tie.Need-mul-short-of-2
-mul-short-of-2 c =
-    let C = at-start (c .before) .pre in
-    omega (
-      arith,
-      chosen-in C
-          (λ i. omega (arith, after-shared-slice-known4 (c .before) .shared-slice-known4 .given i))
-          _
-          (omega (arith, after-least (c .before) .before .if1 .left))
-          (after-least (c .before) .least .ensures),
-      area (C .size),
-    )
+mul-short-of-2 c = let l = after-least (c .before) in omega (arith, chosen-in (leading l), area (at-start l .pre .size))
 
 shared-slice-read-short-of-2 : tie.Need-shared-slice-read-short-of-2
 shared-slice-read-short-of-2 c =
-    let C = at-start (c .before .before) .pre in
-    omega (
-      arith,
-      chosen-in C
-          (λ i. omega (arith, after-shared-slice-known4 (c .before .before) .shared-slice-known4 .given i))
-          _
-          (omega (arith, after-least (c .before .before) .before .if1 .left))
-          (after-least (c .before .before) .least .ensures),
-      C .heap .tables .length2,
-    )
+    let l = after-least (c .before .before) in omega (arith, chosen-in (leading l), at-start l .pre .heap .tables .length2)
 
 short-of-requires : tie.Need-short-of-requires
 short-of-requires c κs = search needs
 
 returns-3 : tie.Need-returns-3
 returns-3 c =
-    chosen-short
-    (at-start (c .before .before .before .before) .pre)
-    (λ i. omega (arith, after-shared-slice-known4 (c .before .before .before .before) .shared-slice-known4 .given i))
-    _
-    (omega (arith, after-least (c .before .before .before .before) .before .if1 .left))
-    (after-least (c .before .before .before .before) .least .ensures)
-    (c .before .before .before .before .if2 .left)
-    (c .before .short-of .ensures)
-    (c .if3 .taken)
+    let level = c .before .before .before .before in
+    chosen-short (leading (after-least level)) (level .if2 .left) (c .before .short-of .ensures) (c .if3 .taken)
 
 returns-4 : tie.Need-returns-4
 returns-4 c =
-    chosen-done
-    (at-start (c .before .before .before .before) .pre)
-    (λ i. omega (arith, after-shared-slice-known4 (c .before .before .before .before) .shared-slice-known4 .given i))
-    _
-    (omega (arith, after-least (c .before .before .before .before) .before .if1 .left))
-    (after-least (c .before .before .before .before) .least .ensures)
-    (c .before .before .before .before .if2 .left)
-    (c .before .short-of .ensures)
-    (c .if3 .left)
+    let level = c .before .before .before .before in
+    chosen-done (leading (after-least level)) (level .if2 .left) (c .before .short-of .ensures) (c .if3 .left)
 
 pub chosen-spec : {M : Type 1} → statement M
 chosen-spec =

@@ -1,47 +1,37 @@
 -- The entry left absent, taken out, put in, or put under its key: each is the method's `setRight`, by the queue's promise (EntryLaws).
 use mathlib.Core.Path.{refl}
-use native.Mathlib.Omega.{arith}
-use Rattle.entries.proofs.EntryLaws.{spots-placed, key-room, heap-here, right-absent, right-out, right-in, kept-in, kept-out}
+use Rattle.entries.proofs.EntryLaws.{spots-placed, key-room, cell-listed, heap-here, right-absent, right-out, right-in, kept-in, kept-out}
 use borrow.Author.Needs.{needs}
 use Rattle.entries.proofs.set_right.Statement.{statement}
 use Rattle.entries.proofs.set_right.Tie as tie
 
 -- The places that the answers look back to.
-abbrev at-start-for-slice-read-i : tie.After-slice-known5 → tie.Start
-at-start-for-slice-read-i c = c .before .before .before .before .before .before .before .before .before
+abbrev at-start : tie.After-slice-known5 → tie.Start
+at-start c = c .before .before .before .before .before .before .before .before .before
 
-abbrev at-start-from-then-1 : tie.Then1 → tie.Start
-at-start-from-then-1 c = at-start-for-slice-read-i (c .before)
+abbrev at-start-if-equal : tie.Then1 → tie.Start
+at-start-if-equal c = at-start (c .before)
 
-abbrev at-start-from-lesser : tie.After-lesser → tie.Start
-at-start-from-lesser c = at-start-for-slice-read-i (c .before .before)
+abbrev at-start-if-differ : tie.After-lesser → tie.Start
+at-start-if-differ c = at-start (c .before .before)
 
-abbrev else-2-for-take-out : tie.After-take-out-arg4 → tie.Else2
-else-2-for-take-out c = c .before .before .before .before
+abbrev to-leave : tie.After-take-out-arg4 → tie.Else2
+to-leave c = c .before .before .before .before
 
-abbrev then-3-for-put-in : tie.After-put-in-arg4 → tie.Then3
-then-3-for-put-in c = c .before .before .before .before
+abbrev to-enter : tie.After-put-in-arg4 → tie.Then3
+to-enter c = c .before .before .before .before
 
-abbrev else-3 : tie.After-put-under-arg4 → tie.Else3
-else-3 c = c .before .before .before .before
+abbrev to-stay : tie.After-put-under-arg4 → tie.Else3
+to-stay c = c .before .before .before .before
 
 abbrev after-take-out : tie.After-slice-known9 → tie.After-take-out
 after-take-out c = c .before .before .before .before .before .before .before .before
-
-abbrev else-2 : tie.After-slice-known9 → tie.Else2
-else-2 c = else-2-for-take-out (after-take-out c .before)
 
 abbrev after-put-in : tie.After-slice-known13 → tie.After-put-in
 after-put-in c = c .before .before .before .before .before .before .before .before
 
 abbrev after-put-under : tie.After-slice-known17 → tie.After-put-under
 after-put-under c = c .before .before .before .before .before .before .before .before
-
-abbrev then-3-for-returns-3 : tie.After-slice-known13 → tie.Then3
-then-3-for-returns-3 c = then-3-for-put-in (after-put-in c .before)
-
-abbrev after-first-key : tie.After-slice-known17 → tie.After-first-key
-after-first-key c = else-3 (after-put-under c .before) .before
 
 mul-x : tie.Need-mul-x
 mul-x c = search needs
@@ -63,14 +53,14 @@ slice-read-i c = search needs
 
 returns : tie.Need-returns
 returns c =
-    let E = at-start-from-then-1 (c .before) .pre in
+    let E = at-start-if-equal (c .before) .pre in
     let e = c .before .if1 .taken in
     (right-absent E e (c .if2 .taken), λ _ _ _. (refl, refl, refl))
 
 take-out-requires : tie.Need-take-out-requires
 take-out-requires c κs =
-    let E = at-start-from-then-1 (else-2-for-take-out c .before) .pre in
-    (heap-here E, (omega (arith, E .sited .inside, E .heap .tables .agree .lengthList), else-2-for-take-out c .if2 .left))
+    let E = at-start-if-equal (to-leave c .before) .pre in
+    (heap-here E, (cell-listed E, to-leave c .if2 .left))
 
 same-length : tie.Need-same-length
 same-length c = search needs
@@ -86,23 +76,23 @@ same-length-4 c = search needs
 
 returns-2 : tie.Need-returns-2
 returns-2 c =
-    let E = at-start-from-then-1 (else-2 c .before) .pre in
-    let e = else-2 c .before .if1 .taken in
+    let l = to-leave (after-take-out c .before) in
+    let E = at-start-if-equal (l .before) .pre in
     let q = after-take-out c .take-out .ensures .1 in
-    (right-out E e q, kept-out E q refl (else-2 c .if2 .left))
+    (right-out E (l .before .if1 .taken) q, kept-out E q refl (l .if2 .left))
 
 lesser-requires : tie.Need-lesser-requires
 lesser-requires c κs = search needs
 
 first-key-requires : tie.Need-first-key-requires
 first-key-requires c κs =
-    let E = at-start-from-lesser c .pre in
+    let E = at-start-if-differ c .pre in
     (spots-placed (E .sited), key-room (E .sited) (E .fits (c .before .if1 .left)) (c .lesser .ensures))
 
 put-in-requires : tie.Need-put-in-requires
 put-in-requires c κs =
-    let E = at-start-from-lesser (then-3-for-put-in c .before .before) .pre in
-    (heap-here E, (omega (arith, E .sited .inside, E .heap .tables .agree .lengthList), then-3-for-put-in c .if3 .taken))
+    let E = at-start-if-differ (to-enter c .before .before) .pre in
+    (heap-here E, (cell-listed E, to-enter c .if3 .taken))
 
 same-length-5 : tie.Need-same-length-5
 same-length-5 c = search needs
@@ -118,17 +108,17 @@ same-length-8 c = search needs
 
 returns-3 : tie.Need-returns-3
 returns-3 c =
-    let E = at-start-from-lesser (then-3-for-returns-3 c .before .before) .pre in
-    let n = then-3-for-returns-3 c .before .before .before .if1 .left in
-    let l = then-3-for-returns-3 c .before .before .lesser .ensures in
-    let f = then-3-for-returns-3 c .before .first-key .ensures in
-    let q = after-put-in c .put-in .ensures .1 in
-    (right-in E n l f q, kept-in E q refl (then-3-for-returns-3 c .if3 .taken))
+    let key = to-enter (after-put-in c .before) .before in
+    let E = at-start-if-differ (key .before) .pre in
+    let q = after-put-in c .put-in .ensures .1 in (
+      right-in E (key .before .before .if1 .left) (key .before .lesser .ensures) (key .first-key .ensures) q,
+      kept-in E q refl (to-enter (after-put-in c .before) .if3 .taken),
+    )
 
 put-under-requires : tie.Need-put-under-requires
 put-under-requires c κs =
-    let E = at-start-from-lesser (else-3 c .before .before) .pre in
-    (heap-here E, (omega (arith, E .sited .inside, E .heap .tables .agree .lengthList), else-3 c .if3 .left))
+    let E = at-start-if-differ (to-stay c .before .before) .pre in
+    (heap-here E, (cell-listed E, to-stay c .if3 .left))
 
 same-length-9 : tie.Need-same-length-9
 same-length-9 c = search needs
@@ -144,12 +134,10 @@ same-length-12 c = search needs
 
 returns-4 : tie.Need-returns-4
 returns-4 c =
-    let E = at-start-from-lesser (after-first-key c .before) .pre in
-    let n = after-first-key c .before .before .if1 .left in
-    let l = after-first-key c .before .lesser .ensures in
-    let f = after-first-key c .first-key .ensures in
+    let key = to-stay (after-put-under c .before) .before in
+    let E = at-start-if-differ (key .before) .pre in
     let q = after-put-under c .put-under .ensures in
-    (right-in E n l f (q .0), q .1)
+    (right-in E (key .before .before .if1 .left) (key .before .lesser .ensures) (key .first-key .ensures) (q .0), q .1)
 
 pub set-right-spec : {M : Type 1} → statement M
 set-right-spec =

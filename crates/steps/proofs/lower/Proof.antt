@@ -1,8 +1,8 @@
 -- After d directions the tables are the method's with the moves of those directions relaxed.
 use borrow.Author.Needs.{needs}
-use mathlib.Core.Path.{_≡_, refl, sym, _∙_}
+use mathlib.Core.Path.{refl, sym}
 use mathlib.Core.Logic.{inr}
-use Prim.Native.Nat.{_≤_, _-_}
+use Prim.Native.Nat.{_-_}
 use native.Mathlib.Omega.{arith}
 use Rattle.method.specs.Steps.{relaxedAll}
 use Rattle.method.proofs.Entries.{setRight-sized}
@@ -10,23 +10,16 @@ use Rattle.method.proofs.Stepping.{relaxedAll-sized}
 use Rattle.plan.specs.Grid.{outBy, upTo}
 use Rattle.plan.proofs.MoveLaws.{area}
 use Rattle.tables.specs.Lent.{tables, core}
-use Rattle.entries.specs.Aims.{floor, hunt, mostRhs, Ready}
+use Rattle.entries.specs.Aims.{floor, hunt}
 use Rattle.entries.proofs.FoundLaws.{entering, became-as}
-use Rattle.steps.proofs.StepLaws.{ready-after, g-set, lower-finite, facing, relaxing, obeying, relaxed-first, relaxed-more, lower-is}
+use Rattle.steps.proofs.StepLaws.{Looked, same-lengths, ready-after, g-set, lower-finite, facing, relaxing, obeying, relaxed-first, relaxed-more, lower-is}
 use Rattle.steps.proofs.lower.Statement.{statement}
 use Rattle.steps.proofs.lower.Tie as tie
 
 abbrev Inv-loop : tie.InvT-loop
 Inv-loop a plan g rhs₀ parent₀ k1₀ k2₀ place₀ list₀ count u at v n₀ d₀ rhs parent k1 k2 place list n d =
-    (d ≤ 4)
-    × (core
-    (tables plan g rhs parent k1 k2 place list) ≡
-    relaxedAll
-    (hunt a plan)
-    v
-    (core (tables plan g rhs₀ parent₀ k1₀ k2₀ place₀ list₀))
-    (upTo (outBy (floor a plan) u) d))
-    × Ready a mostRhs n (tables plan g rhs parent k1 k2 place list)
+    Looked a n d (tables plan g rhs parent k1 k2 place list)
+    (relaxedAll (hunt a plan) v (core (tables plan g rhs₀ parent₀ k1₀ k2₀ place₀ list₀)) (upTo (outBy (floor a plan) u) d))
 
 abbrev μ-loop : tie.MeasureT-loop
 μ-loop a plan g rhs₀ parent₀ k1₀ k2₀ place₀ list₀ count u at v n₀ d₀ rhs parent k1 k2 place list n d = 4 - d
@@ -82,22 +75,23 @@ set-right-requires c κs =
 loop-holds : tie.Need-loop-holds Inv-loop μ-loop
 loop-holds c =
     let p = at-start-for-loop-holds c .pre in
-    let R = g-set _ (p .here) (inr (lower-finite p)) .ready in (
-      omega arith,
-      relaxed-first _ _ _ _,
-      ready-after R (setRight-sized (R .held .sized) _ _) (after-set-right-for-loop-holds c .set-right .ensures .0 _ _) (R .small-rhs),
-    )
+    let R = g-set _ (p .here) (inr (lower-finite p)) .ready in
+    record {
+      few = omega arith;
+      is = relaxed-first _ _ _ _;
+      ready = ready-after R (setRight-sized (R .held .sized) _ _) (after-set-right-for-loop-holds c .set-right .ensures .0 _ _) (R .small-rhs);
+    }
 
 relaxation-requires : tie.Need-relaxation-requires Inv-loop μ-loop
 relaxation-requires c κs =
     let p = at-start-from-loop (c .before .before) .pre in
-    relaxing (facing (p .here) (c .before .before .loop .inv .2) (c .before .loop-test .taken)) (lower-finite p)
+    relaxing (facing (p .here) (c .before .before .loop .inv .ready) (c .before .loop-test .taken)) (lower-finite p)
 
 obey-requires : tie.Need-obey-requires Inv-loop μ-loop
 obey-requires c κs =
     let r = after-relaxation-for-obey c in
     let p = at-start-from-loop (r .before .before .before) .pre in
-    obeying (facing (p .here) (r .before .before .before .loop .inv .2) (r .before .before .loop-test .taken)) (r .relaxation .ensures .fair)
+    obeying (facing (p .here) (r .before .before .before .loop .inv .ready) (r .before .before .loop-test .taken)) (r .relaxation .ensures .fair)
 
 add-d : tie.Need-add-d Inv-loop μ-loop
 add-d c = omega (arith, after-relaxation-for-loop-again c .before .before .loop-test .taken)
@@ -107,38 +101,36 @@ loop-less c = omega (arith, after-relaxation-for-loop-again c .before .before .l
 
 loop-again : tie.Need-loop-again Inv-loop μ-loop
 loop-again c =
-    let i = after-relaxation-for-loop-again c .before .before .before .loop .inv in
+    let asked = after-relaxation-for-loop-again c in
+    let i = asked .before .before .before .loop .inv in
     let e = after-obey c .obey .ensures in
-    let B = became-as (e .became _) (sym (after-relaxation-for-loop-again c .relaxation .ensures .is _ refl)) in (
-      omega (arith, after-relaxation-for-loop-again c .before .before .loop-test .taken),
-      relaxed-more _ _ _ _ _ (i .1) (B .is),
-      ready-after (i .2) (relaxedAll-sized (i .2 .held .sized) _ _ _) B (e .small-rhs),
-    )
+    let B = became-as (e .became _) (sym (asked .relaxation .ensures .is _ refl)) in
+    record {
+      few = omega (arith, asked .before .before .loop-test .taken);
+      is = relaxed-more _ _ _ _ _ (i .is) (B .is);
+      ready = ready-after (i .ready) (relaxedAll-sized (i .ready .held .sized) _ _ _) B (e .small-rhs);
+    }
 
 same-length : tie.Need-same-length Inv-loop μ-loop
 same-length c = search needs
 
 same-length-2 : tie.Need-same-length-2 Inv-loop μ-loop
-same-length-2 c = c .before .loop .inv .2 .held .sized .rhs ∙ sym (at-start-from-loop (c .before) .pre .here .ready .held .sized .rhs)
+same-length-2 c = same-lengths (c .before .loop .inv .ready .held) (at-start-from-loop (c .before) .pre .here .ready .held) .rhs
 
 same-length-3 : tie.Need-same-length-3 Inv-loop μ-loop
-same-length-3 c = c .before .loop .inv .2 .held .sized .parent ∙ sym (at-start-from-loop (c .before) .pre .here .ready .held .sized .parent)
+same-length-3 c = same-lengths (c .before .loop .inv .ready .held) (at-start-from-loop (c .before) .pre .here .ready .held) .parent
 
 same-length-4 : tie.Need-same-length-4 Inv-loop μ-loop
-same-length-4 c = c .before .loop .inv .2 .held .sized .k1 ∙ sym (at-start-from-loop (c .before) .pre .here .ready .held .sized .k1)
+same-length-4 c = same-lengths (c .before .loop .inv .ready .held) (at-start-from-loop (c .before) .pre .here .ready .held) .k1
 
 same-length-5 : tie.Need-same-length-5 Inv-loop μ-loop
-same-length-5 c = c .before .loop .inv .2 .held .sized .k2 ∙ sym (at-start-from-loop (c .before) .pre .here .ready .held .sized .k2)
+same-length-5 c = same-lengths (c .before .loop .inv .ready .held) (at-start-from-loop (c .before) .pre .here .ready .held) .k2
 
 same-length-6 : tie.Need-same-length-6 Inv-loop μ-loop
-same-length-6 c =
-    c .before .loop .inv .2 .held .heap .tables .agree .lengthPlace
-    ∙ sym (at-start-from-loop (c .before) .pre .here .ready .held .heap .tables .agree .lengthPlace)
+same-length-6 c = same-lengths (c .before .loop .inv .ready .held) (at-start-from-loop (c .before) .pre .here .ready .held) .place
 
 same-length-7 : tie.Need-same-length-7 Inv-loop μ-loop
-same-length-7 c =
-    c .before .loop .inv .2 .held .heap .tables .agree .lengthList
-    ∙ sym (at-start-from-loop (c .before) .pre .here .ready .held .heap .tables .agree .lengthList)
+same-length-7 c = same-lengths (c .before .loop .inv .ready .held) (at-start-from-loop (c .before) .pre .here .ready .held) .list
 
 returns : tie.Need-returns Inv-loop μ-loop
 returns c =
@@ -147,10 +139,10 @@ returns c =
     lower-is _ _ _ _ _ _ _ _ _
     (at-start-from-loop (c .before) .args .list .now)
     (omega (arith, p .ready .held .sized .g, p .inside))
-    (omega (arith, i .0, c .loop-test .left))
+    (omega (arith, i .few, c .loop-test .left))
     (after-set-right-from-loop c .set-right .ensures .0 _ _ .is)
-    (i .1)
-    (i .2 .held)
+    (i .is)
+    (i .ready .held)
 
 pub lower-spec : {M : Type 1} → statement M
 lower-spec =

@@ -1,30 +1,24 @@
 -- After d directions the tables are the method's with the children of those directions found anew.
 use borrow.Author.Needs.{needs}
-use mathlib.Core.Path.{_≡_, refl, sym, _∙_}
+use mathlib.Core.Path.{refl, sym, _∙_}
 use mathlib.Core.Logic.{inl}
-use Prim.Native.Nat.{_≤_, _-_}
+use Prim.Native.Nat.{_-_}
 use native.Mathlib.Omega.{arith}
 use Rattle.method.specs.Steps.{renewedAll}
 use Rattle.method.proofs.Stepping.{renewedAll-sized}
 use Rattle.plan.specs.Grid.{outBy, upTo}
 use Rattle.plan.proofs.MoveLaws.{area}
 use Rattle.tables.specs.Lent.{tables, core}
-use Rattle.entries.specs.Aims.{floor, hunt, mostRhs, Ready}
+use Rattle.entries.specs.Aims.{floor, hunt}
 use Rattle.entries.proofs.FoundLaws.{entering, became-as}
-use Rattle.steps.proofs.StepLaws.{ready-after, g-set, facing, renewing, obeying, renewed-first, renewed-more, raise-is}
+use Rattle.steps.proofs.StepLaws.{Looked, same-lengths, ready-after, g-set, facing, renewing, obeying, renewed-first, renewed-more, raise-is}
 use Rattle.steps.proofs.raise.Statement.{statement}
 use Rattle.steps.proofs.raise.Tie as tie
 
 abbrev Inv-loop : tie.InvT-loop
 Inv-loop a plan g rhs₀ parent₀ k1₀ k2₀ place₀ list₀ count u at n₀ d₀ rhs parent k1 k2 place list n d =
-    (d ≤ 4)
-    × (core
-    (tables plan g rhs parent k1 k2 place list) ≡
-    renewedAll
-    (hunt a plan)
-    (core (tables plan g rhs₀ parent₀ k1₀ k2₀ place₀ list₀))
-    (upTo (outBy (floor a plan) u) d))
-    × Ready a mostRhs n (tables plan g rhs parent k1 k2 place list)
+    Looked a n d (tables plan g rhs parent k1 k2 place list)
+    (renewedAll (hunt a plan) (core (tables plan g rhs₀ parent₀ k1₀ k2₀ place₀ list₀)) (upTo (outBy (floor a plan) u) d))
 
 abbrev μ-loop : tie.MeasureT-loop
 μ-loop a plan g rhs₀ parent₀ k1₀ k2₀ place₀ list₀ count u at n₀ d₀ rhs parent k1 k2 place list n d = 4 - d
@@ -67,18 +61,18 @@ slice-write-g : tie.Need-slice-write-g Inv-loop μ-loop
 slice-write-g c = let p = at-start-for-mul-g c .pre in omega (arith, p .inside, p .ready .held .sized .g)
 
 loop-holds : tie.Need-loop-holds Inv-loop μ-loop
-loop-holds c = (omega arith, renewed-first _ _ _, g-set _ (at-start-for-mul-g c .pre) (inl refl) .ready)
+loop-holds c = record { few = omega arith; is = renewed-first _ _ _; ready = g-set _ (at-start-for-mul-g c .pre) (inl refl) .ready }
 
 renewal-requires : tie.Need-renewal-requires Inv-loop μ-loop
 renewal-requires c κs =
     let l = c .before .before .before in
-    renewing (facing (at-start-from-loop l .pre) (l .loop .inv .2) (c .before .before .loop-test .taken))
+    renewing (facing (at-start-from-loop l .pre) (l .loop .inv .ready) (c .before .before .loop-test .taken))
 
 obey-requires : tie.Need-obey-requires Inv-loop μ-loop
 obey-requires c κs =
     let r = after-renewal-for-obey c in
     let l = r .before .before .before .before in
-    obeying (facing (at-start-from-loop l .pre) (l .loop .inv .2) (r .before .before .before .loop-test .taken)) (r .renewal .ensures .fair)
+    obeying (facing (at-start-from-loop l .pre) (l .loop .inv .ready) (r .before .before .before .loop-test .taken)) (r .renewal .ensures .fair)
 
 add-d : tie.Need-add-d Inv-loop μ-loop
 add-d c = omega (arith, after-renewal-for-loop-again c .before .before .before .loop-test .taken)
@@ -88,55 +82,53 @@ loop-less c = omega (arith, after-renewal-for-loop-again c .before .before .befo
 
 loop-again : tie.Need-loop-again Inv-loop μ-loop
 loop-again c =
-    let i = after-renewal-for-loop-again c .before .before .before .before .loop .inv in
+    let asked = after-renewal-for-loop-again c in
+    let i = asked .before .before .before .before .loop .inv in
     let e = after-obey c .obey .ensures in
-    let B = became-as (e .became _) (sym (after-renewal-for-loop-again c .renewal .ensures .is _ refl refl)) in (
-      omega (arith, after-renewal-for-loop-again c .before .before .before .loop-test .taken),
-      renewed-more _ _ _ _ (i .1) (B .is),
-      ready-after (i .2) (renewedAll-sized (i .2 .held .sized) _ _) B (e .small-rhs),
-    )
+    let B = became-as (e .became _) (sym (asked .renewal .ensures .is _ refl refl)) in
+    record {
+      few = omega (arith, asked .before .before .before .loop-test .taken);
+      is = renewed-more _ _ _ _ (i .is) (B .is);
+      ready = ready-after (i .ready) (renewedAll-sized (i .ready .held .sized) _ _) B (e .small-rhs);
+    }
 
 set-right-requires : tie.Need-set-right-requires Inv-loop μ-loop
 set-right-requires c κs =
     let p = at-start-from-loop (at-loop c) .pre in
-    entering (record { ready = at-loop c .loop .inv .2; inside = p .inside; stands = p .stands })
+    entering (record { ready = at-loop c .loop .inv .ready; inside = p .inside; stands = p .stands })
 
 same-length : tie.Need-same-length Inv-loop μ-loop
 same-length c = search needs
 
 same-length-2 : tie.Need-same-length-2 Inv-loop μ-loop
-same-length-2 c = after-loop c .before .loop .inv .2 .held .sized .rhs ∙ sym (at-start c .pre .ready .held .sized .rhs)
+same-length-2 c = same-lengths (after-loop c .before .loop .inv .ready .held) (at-start c .pre .ready .held) .rhs
 
 same-length-3 : tie.Need-same-length-3 Inv-loop μ-loop
-same-length-3 c = after-loop c .before .loop .inv .2 .held .sized .parent ∙ sym (at-start c .pre .ready .held .sized .parent)
+same-length-3 c = same-lengths (after-loop c .before .loop .inv .ready .held) (at-start c .pre .ready .held) .parent
 
 same-length-4 : tie.Need-same-length-4 Inv-loop μ-loop
 same-length-4 c =
-    let e = after-set-right c .set-right .ensures .0 (at-start c .args .plan .now) (after-loop c .before .loop .parent) in
-    e .heap .tables .length1 ∙ sym (at-start c .pre .ready .held .sized .k1)
+    after-set-right c .set-right .kept .1 .1 .1 .0 ∙ same-lengths (after-loop c .before .loop .inv .ready .held) (at-start c .pre .ready .held) .k1
 
 same-length-5 : tie.Need-same-length-5 Inv-loop μ-loop
 same-length-5 c =
-    let e = after-set-right c .set-right .ensures .0 (at-start c .args .plan .now) (after-loop c .before .loop .parent) in
-    e .heap .tables .length2 ∙ sym (at-start c .pre .ready .held .sized .k2)
+    after-set-right c .set-right .kept .1 .1 .1 .1 .0 ∙ same-lengths (after-loop c .before .loop .inv .ready .held) (at-start c .pre .ready .held) .k2
 
 same-length-6 : tie.Need-same-length-6 Inv-loop μ-loop
 same-length-6 c =
-    let e = after-set-right c .set-right .ensures .0 (at-start c .args .plan .now) (after-loop c .before .loop .parent) in
-    e .heap .tables .agree .lengthPlace ∙ sym (at-start c .pre .ready .held .heap .tables .agree .lengthPlace)
+    after-set-right c .set-right .kept .1 .1 .1 .1 .1 .0 ∙ same-lengths (after-loop c .before .loop .inv .ready .held) (at-start c .pre .ready .held) .place
 
 same-length-7 : tie.Need-same-length-7 Inv-loop μ-loop
 same-length-7 c =
-    let e = after-set-right c .set-right .ensures .0 (at-start c .args .plan .now) (after-loop c .before .loop .parent) in
-    e .heap .tables .agree .lengthList ∙ sym (at-start c .pre .ready .held .heap .tables .agree .lengthList)
+    after-set-right c .set-right .kept .1 .1 .1 .1 .1 .1 .0 ∙ same-lengths (after-loop c .before .loop .inv .ready .held) (at-start c .pre .ready .held) .list
 
 returns : tie.Need-returns Inv-loop μ-loop
 returns c =
     let i = after-loop c .before .loop .inv in
     raise-is _ _ _ _ _ _ _ _ _
     (at-start c .args .list .now)
-    (omega (arith, i .0, after-loop c .loop-test .left))
-    (i .1)
+    (omega (arith, i .few, after-loop c .loop-test .left))
+    (i .is)
     (after-set-right c .set-right .ensures .0 _ _)
 
 pub raise-spec : {M : Type 1} → statement M

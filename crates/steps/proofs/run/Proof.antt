@@ -1,10 +1,10 @@
 -- Between the steps there holds what the method says of them, and what is still to come is what the whole run does.
-use mathlib.Core.Path.{_∙_, sym}
 use borrow.Author.Needs.{needs}
 use Prim.Native.Nat.{_-_}
 use native.Mathlib.Omega.{arith}
 use Rattle.plan.proofs.MoveLaws.{area}
-use Rattle.tables.specs.Lent.{tables}
+use Rattle.tables.specs.Lent.{Tables, tables}
+use Rattle.steps.proofs.StepLaws.{Lengths, same-lengths}
 use Rattle.steps.proofs.LoopLaws.{Going, going-first, choosing, stepping, going-more, finished-done, finished-cut}
 use Rattle.steps.proofs.run.Statement.{statement}
 use Rattle.steps.proofs.run.Tie as tie
@@ -41,15 +41,6 @@ at-loop-for-returns-3 c = after-loop-from-chosen2 (c .before .before) .before
 abbrev at-loop-for-returns-2 : tie.After-enum-told3 Inv-loop μ-loop → tie.At-loop Inv-loop μ-loop
 at-loop-for-returns-2 c = after-loop-from-chosen2 (c .before .before) .before
 
-abbrev at-start : tie.After-enum-told Inv-loop μ-loop → tie.Start Inv-loop μ-loop
-at-start c = at-start-from-loop (at-loop c)
-
-abbrev at-start-for-returns-3 : tie.After-enum-told2 Inv-loop μ-loop → tie.Start Inv-loop μ-loop
-at-start-for-returns-3 c = at-start-from-loop (at-loop-for-returns-3 c)
-
-abbrev at-start-for-returns-2 : tie.After-enum-told3 Inv-loop μ-loop → tie.Start Inv-loop μ-loop
-at-start-for-returns-2 c = at-start-from-loop (at-loop-for-returns-2 c)
-
 abbrev after-next-for-step : tie.After-step-arg7 Inv-loop μ-loop → tie.After-next Inv-loop μ-loop
 after-next-for-step c = c .before .before .before .before .before .before .before .before
 
@@ -64,6 +55,19 @@ after-next-for-loop-again c = after-next-for-step (after-step c .before)
 
 abbrev in-loop-for-loop-again : tie.After-slice-known14 Inv-loop μ-loop → tie.In-loop Inv-loop μ-loop
 in-loop-for-loop-again c = in-loop-for-chosen (after-next-for-loop-again c .before .before .before)
+
+-- The tables at the start and at the loop, which are as long.
+abbrev got : tie.Start Inv-loop μ-loop → Tables
+got x =
+    tables (x .args .plan .now) (x .args .g .now) (x .args .rhs .now) (x .args .parent .now) (x .args .k1 .now) (x .args .k2 .now) (x .args .place .now)
+    (x .args .list .now)
+
+abbrev held-at : tie.At-loop Inv-loop μ-loop → Tables
+held-at l =
+    tables (at-start-from-loop l .args .plan .now) (l .loop .g) (l .loop .rhs) (l .loop .parent) (l .loop .k1) (l .loop .k2) (l .loop .place) (l .loop .list)
+
+lengths : (l : tie.At-loop Inv-loop μ-loop) → Lengths (held-at l) (got (at-start-from-loop l))
+lengths l = same-lengths (l .loop .inv .held) (at-start-from-loop l .pre .1 .held)
 
 mul-limit : tie.Need-mul-limit Inv-loop μ-loop
 mul-limit c = omega (arith, area (at-start-for-mul-limit c .pre .0 .obeys .size))
@@ -84,25 +88,25 @@ enum-told : tie.Need-enum-told Inv-loop μ-loop
 enum-told c = search needs
 
 same-length : tie.Need-same-length Inv-loop μ-loop
-same-length c = at-loop c .loop .inv .held .sized .g ∙ sym (at-start c .pre .1 .held .sized .g)
+same-length c = lengths (at-loop c) .g
 
 same-length-2 : tie.Need-same-length-2 Inv-loop μ-loop
-same-length-2 c = at-loop c .loop .inv .held .sized .rhs ∙ sym (at-start c .pre .1 .held .sized .rhs)
+same-length-2 c = lengths (at-loop c) .rhs
 
 same-length-3 : tie.Need-same-length-3 Inv-loop μ-loop
-same-length-3 c = at-loop c .loop .inv .held .sized .parent ∙ sym (at-start c .pre .1 .held .sized .parent)
+same-length-3 c = lengths (at-loop c) .parent
 
 same-length-4 : tie.Need-same-length-4 Inv-loop μ-loop
-same-length-4 c = at-loop c .loop .inv .held .sized .k1 ∙ sym (at-start c .pre .1 .held .sized .k1)
+same-length-4 c = lengths (at-loop c) .k1
 
 same-length-5 : tie.Need-same-length-5 Inv-loop μ-loop
-same-length-5 c = at-loop c .loop .inv .held .sized .k2 ∙ sym (at-start c .pre .1 .held .sized .k2)
+same-length-5 c = lengths (at-loop c) .k2
 
 same-length-6 : tie.Need-same-length-6 Inv-loop μ-loop
-same-length-6 c = at-loop c .loop .inv .held .heap .tables .agree .lengthPlace ∙ sym (at-start c .pre .1 .held .heap .tables .agree .lengthPlace)
+same-length-6 c = lengths (at-loop c) .place
 
 same-length-7 : tie.Need-same-length-7 Inv-loop μ-loop
-same-length-7 c = at-loop c .loop .inv .held .heap .tables .agree .lengthList ∙ sym (at-start c .pre .1 .held .heap .tables .agree .lengthList)
+same-length-7 c = lengths (at-loop c) .list
 
 returns : tie.Need-returns Inv-loop μ-loop
 returns c = finished-done (at-loop c .loop .inv) (c .enum-told .given .1) (c .before .before .chosen .ensures)
@@ -142,57 +146,49 @@ enum-told-3 : tie.Need-enum-told-3 Inv-loop μ-loop
 enum-told-3 c = search needs
 
 same-length-8 : tie.Need-same-length-8 Inv-loop μ-loop
-same-length-8 c = at-loop-for-returns-2 c .loop .inv .held .sized .g ∙ sym (at-start-for-returns-2 c .pre .1 .held .sized .g)
+same-length-8 c = lengths (at-loop-for-returns-2 c) .g
 
 same-length-9 : tie.Need-same-length-9 Inv-loop μ-loop
-same-length-9 c = at-loop-for-returns-2 c .loop .inv .held .sized .rhs ∙ sym (at-start-for-returns-2 c .pre .1 .held .sized .rhs)
+same-length-9 c = lengths (at-loop-for-returns-2 c) .rhs
 
 same-length-10 : tie.Need-same-length-10 Inv-loop μ-loop
-same-length-10 c = at-loop-for-returns-2 c .loop .inv .held .sized .parent ∙ sym (at-start-for-returns-2 c .pre .1 .held .sized .parent)
+same-length-10 c = lengths (at-loop-for-returns-2 c) .parent
 
 same-length-11 : tie.Need-same-length-11 Inv-loop μ-loop
-same-length-11 c = at-loop-for-returns-2 c .loop .inv .held .sized .k1 ∙ sym (at-start-for-returns-2 c .pre .1 .held .sized .k1)
+same-length-11 c = lengths (at-loop-for-returns-2 c) .k1
 
 same-length-12 : tie.Need-same-length-12 Inv-loop μ-loop
-same-length-12 c = at-loop-for-returns-2 c .loop .inv .held .sized .k2 ∙ sym (at-start-for-returns-2 c .pre .1 .held .sized .k2)
+same-length-12 c = lengths (at-loop-for-returns-2 c) .k2
 
 same-length-13 : tie.Need-same-length-13 Inv-loop μ-loop
-same-length-13 c =
-    at-loop-for-returns-2 c .loop .inv .held .heap .tables .agree .lengthPlace
-    ∙ sym (at-start-for-returns-2 c .pre .1 .held .heap .tables .agree .lengthPlace)
+same-length-13 c = lengths (at-loop-for-returns-2 c) .place
 
 same-length-14 : tie.Need-same-length-14 Inv-loop μ-loop
-same-length-14 c =
-    at-loop-for-returns-2 c .loop .inv .held .heap .tables .agree .lengthList
-    ∙ sym (at-start-for-returns-2 c .pre .1 .held .heap .tables .agree .lengthList)
+same-length-14 c = lengths (at-loop-for-returns-2 c) .list
 
 returns-2 : tie.Need-returns-2 Inv-loop μ-loop
 returns-2 c = finished-done (at-loop-for-returns-2 c .loop .inv) (c .enum-told3 .given .1) (c .before .before .chosen2 .ensures)
 
 same-length-15 : tie.Need-same-length-15 Inv-loop μ-loop
-same-length-15 c = at-loop-for-returns-3 c .loop .inv .held .sized .g ∙ sym (at-start-for-returns-3 c .pre .1 .held .sized .g)
+same-length-15 c = lengths (at-loop-for-returns-3 c) .g
 
 same-length-16 : tie.Need-same-length-16 Inv-loop μ-loop
-same-length-16 c = at-loop-for-returns-3 c .loop .inv .held .sized .rhs ∙ sym (at-start-for-returns-3 c .pre .1 .held .sized .rhs)
+same-length-16 c = lengths (at-loop-for-returns-3 c) .rhs
 
 same-length-17 : tie.Need-same-length-17 Inv-loop μ-loop
-same-length-17 c = at-loop-for-returns-3 c .loop .inv .held .sized .parent ∙ sym (at-start-for-returns-3 c .pre .1 .held .sized .parent)
+same-length-17 c = lengths (at-loop-for-returns-3 c) .parent
 
 same-length-18 : tie.Need-same-length-18 Inv-loop μ-loop
-same-length-18 c = at-loop-for-returns-3 c .loop .inv .held .sized .k1 ∙ sym (at-start-for-returns-3 c .pre .1 .held .sized .k1)
+same-length-18 c = lengths (at-loop-for-returns-3 c) .k1
 
 same-length-19 : tie.Need-same-length-19 Inv-loop μ-loop
-same-length-19 c = at-loop-for-returns-3 c .loop .inv .held .sized .k2 ∙ sym (at-start-for-returns-3 c .pre .1 .held .sized .k2)
+same-length-19 c = lengths (at-loop-for-returns-3 c) .k2
 
 same-length-20 : tie.Need-same-length-20 Inv-loop μ-loop
-same-length-20 c =
-    at-loop-for-returns-3 c .loop .inv .held .heap .tables .agree .lengthPlace
-    ∙ sym (at-start-for-returns-3 c .pre .1 .held .heap .tables .agree .lengthPlace)
+same-length-20 c = lengths (at-loop-for-returns-3 c) .place
 
 same-length-21 : tie.Need-same-length-21 Inv-loop μ-loop
-same-length-21 c =
-    at-loop-for-returns-3 c .loop .inv .held .heap .tables .agree .lengthList
-    ∙ sym (at-start-for-returns-3 c .pre .1 .held .heap .tables .agree .lengthList)
+same-length-21 c = lengths (at-loop-for-returns-3 c) .list
 
 returns-3 : tie.Need-returns-3 Inv-loop μ-loop
 returns-3 c =

@@ -1,48 +1,38 @@
 -- The three kinds of step, each by the promise of the function that takes it and its case of the method's `stepped` (StepLaws).
+use mathlib.Core.Path.{_≡_}
 use borrow.Author.Needs.{needs}
+use lib.Dec.{ltb}
 use native.Mathlib.Omega.{arith}
+use Rattle.method.specs.Tables.{storedKey, calculatedKey}
 use Rattle.plan.proofs.MoveLaws.{area}
+use Rattle.tables.specs.Lent.{Tables, tables, core}
+use Rattle.entries.specs.Aims.{hunt, mostG, ReadyAt}
 use Rattle.entries.proofs.FoundLaws.{became-as}
 use Rattle.steps.proofs.StepLaws.{step-here, step-entering, keyed, put-back-is, lowered-is, raised-is}
 use Rattle.steps.proofs.step.Statement.{statement}
 use Rattle.steps.proofs.step.Tie as tie
 
 -- The places that the answers look back to.
-abbrev at-start-for-spot-of : tie.After-slice-known7 → tie.Start
-at-start-for-spot-of c = c .before .before .before .before .before .before .before .before
-
-abbrev at-start-for-stale : tie.After-stale-arg4 → tie.Start
-at-start-for-stale c = at-start-for-spot-of (c .before .before .before .before .before)
-
 abbrev after-spot-of : tie.After-stale → tie.After-spot-of
-after-spot-of c = c .before .before .before .before .before
+after-spot-of s = s .before .before .before .before .before
 
-abbrev at-start-from-stale : tie.After-stale → tie.Start
-at-start-from-stale c = at-start-for-stale (c .before)
+abbrev at-start-from-spot-of : tie.After-spot-of → tie.Start
+at-start-from-spot-of s = s .before .before .before .before .before .before .before .before .before
 
-abbrev then-1-for-set-right : tie.After-set-right-arg6 → tie.Then1
-then-1-for-set-right c = c .before .before .before .before .before .before
+abbrev at-start : tie.After-stale → tie.Start
+at-start s = at-start-from-spot-of (after-spot-of s)
 
-abbrev after-stale-for-set-right : tie.After-set-right-arg6 → tie.After-stale
-after-stale-for-set-right c = then-1-for-set-right c .before
+abbrev to-put-back : tie.After-set-right-arg6 → tie.Then1
+to-put-back c = c .before .before .before .before .before .before
 
-abbrev then-2-for-lower : tie.After-lower-arg7 → tie.Then2
-then-2-for-lower c = c .before .before .before .before .before .before .before
+abbrev to-lower : tie.After-lower-arg7 → tie.Then2
+to-lower c = c .before .before .before .before .before .before .before
 
-abbrev else-2-for-raise : tie.After-raise-arg7 → tie.Else2
-else-2-for-raise c = c .before .before .before .before .before .before .before
-
-abbrev after-stale-for-raise : tie.After-raise-arg7 → tie.After-stale
-after-stale-for-raise c = else-2-for-raise c .before .before .before .before
+abbrev to-raise : tie.After-raise-arg7 → tie.Else2
+to-raise c = c .before .before .before .before .before .before .before
 
 abbrev after-set-right : tie.After-slice-known11 → tie.After-set-right
 after-set-right c = c .before .before .before .before .before .before .before .before
-
-abbrev then-1 : tie.After-slice-known11 → tie.Then1
-then-1 c = then-1-for-set-right (after-set-right c .before)
-
-abbrev at-start : tie.After-slice-known11 → tie.Start
-at-start c = at-start-from-stale (then-1 c .before)
 
 abbrev after-lower : tie.After-slice-known20 → tie.After-lower
 after-lower c = c .before .before .before .before .before .before .before .before .before .before .before .before .before .before
@@ -50,27 +40,31 @@ after-lower c = c .before .before .before .before .before .before .before .befor
 abbrev after-raise : tie.After-slice-known27 → tie.After-raise
 after-raise c = c .before .before .before .before .before .before .before .before .before .before .before .before .before .before
 
-abbrev then-2-for-returns-2 : tie.After-slice-known20 → tie.Then2
-then-2-for-returns-2 c = then-2-for-lower (after-lower c .before)
+-- The tables as the step gets them.
+abbrev got : tie.Start → Tables
+got x =
+    tables (x .args .plan .now) (x .args .g .now) (x .args .rhs .now) (x .args .parent .now) (x .args .k1 .now) (x .args .k2 .now) (x .args .place .now)
+    (x .args .list .now)
 
-abbrev else-2-for-returns-3 : tie.After-slice-known27 → tie.Else2
-else-2-for-returns-3 c = else-2-for-raise (after-raise c .before)
+-- The cell, at its spot.
+here : (s : tie.After-stale) → ReadyAt (at-start s .args .a) mostG (at-start s .args .count) (at-start s .args .u) (after-spot-of s .spot-of .result) (got (at-start s))
+here s = step-here (at-start s .pre) (after-spot-of s .spot-of .ensures)
 
-abbrev at-start-for-returns-2 : tie.After-slice-known20 → tie.Start
-at-start-for-returns-2 c = at-start-from-stale (then-2-for-returns-2 c .before .before .before .before)
-
-abbrev at-start-for-returns-3 : tie.After-slice-known27 → tie.Start
-at-start-for-returns-3 c = at-start-from-stale (after-stale-for-raise (after-raise c .before))
+-- Whether it is put back.
+stale-is : (s : tie.After-stale)
+    → s .stale .result
+    ≡ ltb (storedKey (core (got (at-start s))) (at-start s .args .u))
+    (calculatedKey (hunt (at-start s .args .a) (at-start s .args .plan .now)) (core (got (at-start s))) (at-start s .args .u))
+stale-is s = let x = at-start s in s .stale .ensures (x .args .plan .now) (x .args .parent .now) (x .args .place .now) (x .args .list .now)
 
 spot-of-requires : tie.Need-spot-of-requires
-spot-of-requires c κs = at-start-for-spot-of c .pre .ready .aimed .obeys .size .wide
+spot-of-requires c κs = c .before .before .before .before .before .before .before .before .pre .ready .aimed .obeys .size .wide
 
 stale-requires : tie.Need-stale-requires
-stale-requires c κs = keyed (at-start-for-stale c .pre) (c .before .before .before .before .spot-of .ensures)
+stale-requires c κs = let s = c .before .before .before .before in keyed (at-start-from-spot-of s .pre) (s .spot-of .ensures)
 
 set-right-requires : tie.Need-set-right-requires
-set-right-requires c κs =
-    step-entering (at-start-from-stale (after-stale-for-set-right c) .pre) (after-spot-of (after-stale-for-set-right c) .spot-of .ensures)
+set-right-requires c κs = let s = to-put-back c .before in step-entering (at-start s .pre) (after-spot-of s .spot-of .ensures)
 
 same-length : tie.Need-same-length
 same-length c = search needs
@@ -92,29 +86,23 @@ same-length-6 c = search needs
 
 returns : tie.Need-returns
 returns c =
-    became-as
-    (after-set-right c .set-right .ensures .0 _ _)
-    (put-back-is _ _ _
-    (then-1 c .before .stale .ensures _ (at-start c .args .parent .now) (at-start c .args .place .now) (at-start c .args .list .now))
-    (then-1 c .if1 .taken)
-    (at-start c .pre .differ))
+    let p = to-put-back (after-set-right c .before) in
+    became-as (after-set-right c .set-right .ensures .0 _ _) (put-back-is _ _ _ (stale-is (p .before)) (p .if1 .taken) (at-start (p .before) .pre .differ))
 
 mul-if2 : tie.Need-mul-if2
-mul-if2 c = let p = at-start-from-stale (c .before) .pre in omega (arith, p .inside, area (p .ready .aimed .obeys .size))
+mul-if2 c = let p = at-start (c .before) .pre in omega (arith, p .inside, area (p .ready .aimed .obeys .size))
 
 slice-read-if2 : tie.Need-slice-read-if2
-slice-read-if2 c = let p = at-start-from-stale (c .before .before) .pre in omega (arith, p .inside, p .ready .held .sized .rhs)
+slice-read-if2 c = let p = at-start (c .before .before) .pre in omega (arith, p .inside, p .ready .held .sized .rhs)
 
 mul-if2-2 : tie.Need-mul-if2-2
-mul-if2-2 c = let p = at-start-from-stale (c .before .before) .pre in omega (arith, p .inside, area (p .ready .aimed .obeys .size))
+mul-if2-2 c = let p = at-start (c .before .before) .pre in omega (arith, p .inside, area (p .ready .aimed .obeys .size))
 
 slice-read-if2-2 : tie.Need-slice-read-if2-2
-slice-read-if2-2 c = let p = at-start-from-stale (c .before .before .before) .pre in omega (arith, p .inside, p .ready .held .sized .g)
+slice-read-if2-2 c = let p = at-start (c .before .before .before) .pre in omega (arith, p .inside, p .ready .held .sized .g)
 
 lower-requires : tie.Need-lower-requires
-lower-requires c κs =
-    let s = then-2-for-lower c .before .before .before .before in
-    record { here = step-here (at-start-from-stale s .pre) (after-spot-of s .spot-of .ensures); over = then-2-for-lower c .if2 .taken }
+lower-requires c κs = let l = to-lower c in record { here = here (l .before .before .before .before); over = l .if2 .taken }
 
 same-length-7 : tie.Need-same-length-7
 same-length-7 c = search needs
@@ -139,20 +127,12 @@ same-length-13 c = search needs
 
 returns-2 : tie.Need-returns-2
 returns-2 c =
-    became-as
-    (after-lower c .lower .ensures)
-    (lowered-is _ _ _
-    (then-2-for-returns-2 c .before .before .before .before .stale .ensures _
-    (at-start-for-returns-2 c .args .parent .now)
-    (at-start-for-returns-2 c .args .place .now)
-    (at-start-for-returns-2 c .args .list .now))
-    (then-2-for-returns-2 c .before .before .before .if1 .left)
-    (then-2-for-returns-2 c .if2 .taken))
+    let l = to-lower (after-lower c .before) in
+    let fresh = l .before .before .before in
+    became-as (after-lower c .lower .ensures) (lowered-is _ _ _ (stale-is (fresh .before)) (fresh .if1 .left) (l .if2 .taken))
 
 raise-requires : tie.Need-raise-requires
-raise-requires c κs =
-    let s = after-stale-for-raise c in
-    step-here (at-start-from-stale s .pre) (after-spot-of s .spot-of .ensures)
+raise-requires c κs = here (to-raise c .before .before .before .before)
 
 same-length-14 : tie.Need-same-length-14
 same-length-14 c = search needs
@@ -177,15 +157,9 @@ same-length-20 c = search needs
 
 returns-3 : tie.Need-returns-3
 returns-3 c =
-    became-as
-    (after-raise c .raise .ensures)
-    (raised-is _ _ _
-    (else-2-for-returns-3 c .before .before .before .before .stale .ensures _
-    (at-start-for-returns-3 c .args .parent .now)
-    (at-start-for-returns-3 c .args .place .now)
-    (at-start-for-returns-3 c .args .list .now))
-    (else-2-for-returns-3 c .before .before .before .if1 .left)
-    (else-2-for-returns-3 c .if2 .left))
+    let r = to-raise (after-raise c .before) in
+    let fresh = r .before .before .before in
+    became-as (after-raise c .raise .ensures) (raised-is _ _ _ (stale-is (fresh .before)) (fresh .if1 .left) (r .if2 .left))
 
 pub step-spec : {M : Type 1} → statement M
 step-spec =
