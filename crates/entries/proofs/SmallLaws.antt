@@ -6,7 +6,7 @@ use Prim.Native.Nat.{ℕ, _+_, _*_, _≤_, _<_}
 use native.Mathlib.Omega.{arith}
 use native.Mathlib.Decide.{decLt}
 use lib.ListN.{getD, length, List·getD-eq-default}
-use Rattle.method.specs.Numbers.{infinite, growth}
+use Rattle.method.specs.Numbers.{infinite, mostCost, growth}
 use Rattle.method.proofs.Theorems.{rhs-below}
 use Rattle.plan.proofs.GridLaws.{graph-laws}
 use Rattle.tables.specs.declared.Session.{Session}
@@ -31,7 +31,7 @@ module _ {s : Session} {t : Tables} (S : Sound s t) where
   pub sound-small-rhs : Small mostRhs (t .rhs)
   sound-small-rhs =
       small-by (t .rhs) (cells s) (S .numbers .sized .rhs)
-      (λ k l. ⊎-elim (λ (e : getD (t .rhs) k 0 ≡ infinite). inl e) (λ (h : getD (t .rhs) k 0 ≤ growth * s .searches + 250). inr (omega (arith, S .numbers .searches-le)))
+      (λ k l. ⊎-elim (λ (e : getD (t .rhs) k 0 ≡ infinite). inl e) (λ (h : getD (t .rhs) k 0 ≤ growth * s .searches + mostCost). inr (omega (arith, S .numbers .searches-le)))
       (rhs-below (graph-laws (floor s (t .plan)) (S .plan .size)) (S .numbers) k l))
 
   -- .. whatever the plan

@@ -2,9 +2,9 @@
 use mathlib.Core.Path.{_≡_}
 use mathlib.Core.Logic.{_⊎_}
 use mathlib.Core.List.{List}
-use Prim.Native.Nat.{ℕ, _*_, _≤_, _<_}
+use Prim.Native.Nat.{ℕ, _+_, _*_, _≤_, _<_}
 use lib.ListN.{getD, length}
-use Rattle.method.specs.Numbers.{infinite}
+use Rattle.method.specs.Numbers.{infinite, mostCost}
 use Rattle.method.specs.Graph.{Hunt}
 use Rattle.method.specs.Tables.{Sized}
 use Rattle.queue.specs.Queue.{Heap}
@@ -43,7 +43,7 @@ abbrev pub mostG : ℕ
 mostG = 4100000000
 
 abbrev pub mostRhs : ℕ
-mostRhs = 4100000250
+mostRhs = mostG + mostCost
 
 abbrev pub mostKm : ℕ
 mostKm = 1000000
