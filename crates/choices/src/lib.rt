@@ -42,7 +42,7 @@ pub fn relaxation(a: Aim, plan: &[u8], rhs: &[u32], v: u32, u: usize, d: usize) 
 }
 
 // What it asks in "raise": a cell whose parent is u is found anew.
-pub fn renewal(a: Aim, plan: &[u8], g: &[u32], parent: &[u8], u: usize, d: usize) -> Asked
+pub fn finding_anew(a: Aim, plan: &[u8], g: &[u32], parent: &[u8], u: usize, d: usize) -> Asked
     requires { ⌜ Renewing a (now plan) (now g) (now parent) u d ⌝ }
     ensures { λ r. ⌜ Renews a (now (plan .entry)) (now (g .entry)) (now (parent .entry)) u d r ⌝ }
 {

@@ -87,7 +87,7 @@ fn raise(
     g[u] = tables::INFINITE;
     let mut n = count;
     for d in 0..4 {
-        let asked = choices::renewal(a, plan, g, parent, u, d);
+        let asked = choices::finding_anew(a, plan, g, parent, u, d);
         n = obey(a, g, rhs, parent, k1, k2, place, list, n, at, d, asked);
     }
     entries::set_right(a, g, rhs, k1, k2, place, list, n, u, at)

@@ -36,8 +36,8 @@ after-loop-for-set-right c = c .before .before .before .before .before .before
 abbrev at-loop : tie.After-set-right-arg6 Inv-loop μ-loop → tie.At-loop Inv-loop μ-loop
 at-loop c = after-loop-for-set-right c .before
 
-abbrev after-renewal-for-obey : tie.After-obey-arg7 Inv-loop μ-loop → tie.After-renewal Inv-loop μ-loop
-after-renewal-for-obey c = c .before .before .before .before .before .before .before
+abbrev after-finding-anew-for-obey : tie.After-obey-arg7 Inv-loop μ-loop → tie.After-finding-anew Inv-loop μ-loop
+after-finding-anew-for-obey c = c .before .before .before .before .before .before .before
 
 abbrev after-set-right : tie.After-slice-known17 Inv-loop μ-loop → tie.After-set-right Inv-loop μ-loop
 after-set-right c = c .before .before .before .before .before .before .before .before
@@ -51,8 +51,8 @@ at-start c = at-start-from-loop (after-loop c .before)
 abbrev after-obey : tie.After-slice-known13 Inv-loop μ-loop → tie.After-obey Inv-loop μ-loop
 after-obey c = c .before .before .before .before .before .before .before .before .before .before .before .before
 
-abbrev after-renewal-for-loop-again : tie.After-slice-known13 Inv-loop μ-loop → tie.After-renewal Inv-loop μ-loop
-after-renewal-for-loop-again c = after-renewal-for-obey (after-obey c .before)
+abbrev after-finding-anew-for-loop-again : tie.After-slice-known13 Inv-loop μ-loop → tie.After-finding-anew Inv-loop μ-loop
+after-finding-anew-for-loop-again c = after-finding-anew-for-obey (after-obey c .before)
 
 mul-g : tie.Need-mul-g Inv-loop μ-loop
 mul-g c = let p = at-start-for-mul-g c .pre in omega (arith, p .inside, area (p .ready .aimed .obeys .size))
@@ -63,29 +63,29 @@ slice-write-g c = let p = at-start-for-mul-g c .pre in omega (arith, p .inside, 
 loop-holds : tie.Need-loop-holds Inv-loop μ-loop
 loop-holds c = record { few = omega arith; is = renewed-first _ _ _; ready = g-set _ (at-start-for-mul-g c .pre) (inl refl) .ready }
 
-renewal-requires : tie.Need-renewal-requires Inv-loop μ-loop
-renewal-requires c κs =
+finding-anew-requires : tie.Need-finding-anew-requires Inv-loop μ-loop
+finding-anew-requires c κs =
     let l = c .before .before .before in
     renewing (facing (at-start-from-loop l .pre) (l .loop .inv .ready) (c .before .before .loop-test .taken))
 
 obey-requires : tie.Need-obey-requires Inv-loop μ-loop
 obey-requires c κs =
-    let r = after-renewal-for-obey c in
+    let r = after-finding-anew-for-obey c in
     let l = r .before .before .before .before in
-    obeying (facing (at-start-from-loop l .pre) (l .loop .inv .ready) (r .before .before .before .loop-test .taken)) (r .renewal .ensures .fair)
+    obeying (facing (at-start-from-loop l .pre) (l .loop .inv .ready) (r .before .before .before .loop-test .taken)) (r .finding-anew .ensures .fair)
 
 add-d : tie.Need-add-d Inv-loop μ-loop
-add-d c = omega (arith, after-renewal-for-loop-again c .before .before .before .loop-test .taken)
+add-d c = omega (arith, after-finding-anew-for-loop-again c .before .before .before .loop-test .taken)
 
 loop-less : tie.Need-loop-less Inv-loop μ-loop
-loop-less c = omega (arith, after-renewal-for-loop-again c .before .before .before .loop-test .taken)
+loop-less c = omega (arith, after-finding-anew-for-loop-again c .before .before .before .loop-test .taken)
 
 loop-again : tie.Need-loop-again Inv-loop μ-loop
 loop-again c =
-    let asked = after-renewal-for-loop-again c in
+    let asked = after-finding-anew-for-loop-again c in
     let i = asked .before .before .before .before .loop .inv in
     let e = after-obey c .obey .ensures in
-    let B = became-as (e .became _) (sym (asked .renewal .ensures .is _ refl refl)) in
+    let B = became-as (e .became _) (sym (asked .finding-anew .ensures .is _ refl refl)) in
     record {
       few = omega (arith, asked .before .before .before .loop-test .taken);
       is = renewed-more _ _ _ _ (i .is) (B .is);
@@ -140,7 +140,7 @@ raise-spec =
     mul-g
     slice-write-g
     loop-holds
-    renewal-requires
+    finding-anew-requires
     obey-requires
     add-d
     loop-less

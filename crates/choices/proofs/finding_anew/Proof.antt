@@ -8,8 +8,8 @@ use Rattle.entries.specs.Aims.{floor}
 use Rattle.entries.proofs.AnewLaws.{said-shut, said-to}
 use Rattle.choices.proofs.AskLaws.{enters-by, renews-none, renews-hunter, renews-not, child-findable, renews-at}
 use borrow.Author.Needs.{needs}
-use Rattle.choices.proofs.renewal.Statement.{statement}
-use Rattle.choices.proofs.renewal.Tie as tie
+use Rattle.choices.proofs.finding_anew.Statement.{statement}
+use Rattle.choices.proofs.finding_anew.Tie as tie
 
 -- The places that the answers look back to.
 abbrev at-start : tie.After-reach → tie.Start
@@ -60,8 +60,8 @@ returns-4 c =
     let r = after-reach other in
     renews-at (at-start r .pre) (move-open r) (other .if1 .left) (c .before .if2 .left) (c .anew .ensures)
 
-pub renewal-spec : {M : Type 1} → statement M
-renewal-spec =
+pub finding-anew-spec : {M : Type 1} → statement M
+finding-anew-spec =
     tie.close
     (tie.spec
     move-out-requires
