@@ -7,6 +7,7 @@ use plan;
 use plan::Spot;
 use tables;
 ghost use Rattle.method.specs.Steps.{lowered, raised, stepped};
+ghost use Rattle.queue.specs.Queue.{EntryKept};
 ghost use Rattle.tables.specs.Lent.{core, given, before, after};
 ghost use Rattle.entries.specs.Aims.{hunt, mostG, Aimed, ReadyAt};
 ghost use Rattle.entries.specs.Became.{Became};
@@ -30,6 +31,7 @@ fn obey(
 ) -> usize
     requires { ⌜ Obeying a count at d asked (now g) (now rhs) (now parent) (now k1) (now k2) (now place) (now list) ⌝ }
     ensures { λ r. ⌜ Obeyed a asked (now (g .entry)) (now (rhs .entry)) (now (parent .entry)) (now (k1 .entry)) (now (k2 .entry)) (now (place .entry)) (now (list .entry)) r (now (rhs .exit)) (now (parent .exit)) (now (k1 .exit)) (now (k2 .exit)) (now (place .exit)) (now (list .exit)) ⌝ }
+    ensures { λ r. ⌜ EntryKept count (now (k1 .entry)) (now (k2 .entry)) (now (place .entry)) (now (list .entry)) r (now (k1 .exit)) (now (k2 .exit)) (now (place .exit)) (now (list .exit)) ⌝ }
 {
     let Asked::Takes(s, f) = asked else {
         return count;

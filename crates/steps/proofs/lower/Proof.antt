@@ -103,7 +103,7 @@ loop-again : tie.Need-loop-again Inv-loop μ-loop
 loop-again c =
     let asked = after-relaxation-for-loop-again c in
     let i = asked .before .before .before .loop .inv in
-    let e = after-obey c .obey .ensures in
+    let e = after-obey c .obey .ensures .0 in
     let B = became-as (e .became _) (sym (asked .relaxation .ensures .is _ refl)) in
     record {
       few = omega (arith, asked .before .before .loop-test .taken);

@@ -1,4 +1,5 @@
--- What is asked is done: nothing, or `take` at the spot that the move leads to (StepLaws).
+-- What is asked is done: nothing, or `take` at the spot that the move leads to (StepLaws); an entry that stays keeps its place by the promise of `take`.
+use mathlib.Core.Path.{refl}
 use Rattle.steps.proofs.StepLaws.{obeyed-kept, obeying-move, obeying-take, obeyed-taken}
 use borrow.Author.Needs.{needs}
 use Rattle.steps.proofs.obey.Statement.{statement}
@@ -30,7 +31,7 @@ enum-told : tie.Need-enum-told
 enum-told c = search needs
 
 returns : tie.Need-returns
-returns c = obeyed-kept (at-start-for-returns c .pre) (c .enum-told .given .1)
+returns c = (obeyed-kept (at-start-for-returns c .pre) (c .enum-told .given .1), λ _ _ _. (refl, refl, refl))
 
 moved-requires : tie.Need-moved-requires
 moved-requires c κs = obeying-move (at-start-from-asked (c .before) .pre) (c .before .asked .given .1)
@@ -61,7 +62,9 @@ same-length-6 : tie.Need-same-length-6
 same-length-6 c = search needs
 
 returns-2 : tie.Need-returns-2
-returns-2 c = obeyed-taken (at-start-from-asked (after-asked c) .pre) (after-asked c .asked .given .1) (after-take c .take .ensures .0)
+returns-2 c =
+    let taken = after-take c .take .ensures in
+    (obeyed-taken (at-start-from-asked (after-asked c) .pre) (after-asked c .asked .given .1) (taken .0), taken .1)
 
 pub obey-spec : {M : Type 1} → statement M
 obey-spec =

@@ -84,7 +84,7 @@ loop-again : tie.Need-loop-again Inv-loop μ-loop
 loop-again c =
     let asked = after-finding-anew-for-loop-again c in
     let i = asked .before .before .before .before .loop .inv in
-    let e = after-obey c .obey .ensures in
+    let e = after-obey c .obey .ensures .0 in
     let B = became-as (e .became _) (sym (asked .finding-anew .ensures .is _ refl refl)) in
     record {
       few = omega (arith, asked .before .before .before .loop-test .taken);
