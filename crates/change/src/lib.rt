@@ -43,7 +43,7 @@ fn sum_of(far: u32, cost: u8) -> usize
 }
 
 // What a changed move asks of the cell v that it enters, where it has parent code k. The plan has the new cost.
-pub fn effect_of(
+fn effect_of(
     s: tables::Session,
     plan: &[u8],
     g: &[u32],
