@@ -1,9 +1,9 @@
 -- The rules of a change give one number; number 0 gives every rule, and where every rule holds the number is 0.
 use mathlib.Core.Path.{_≡_}
 use Prim.Native.Nat.{ℕ}
+use Rattle.decide.proofs.RuledLaws.{passed-one, ruled-one, granted, passed-zero, onward}
 use Rattle.tables.specs.declared.Session.{Session}
 use Rattle.tables.specs.Lent.{Tables, cells, Fits}
-use Rattle.session.proofs.RefusalLaws.{passed-one, ruled-one, granted, passed-zero, onward}
 use Rattle.change.specs.Refusals.{ChangeRules, Workable}
 
 pub change-number : {s : Session} {t : Tables} {u d cost k l : ℕ} → ChangeRules s t u d cost k → ChangeRules s t u d cost l → k ≡ l

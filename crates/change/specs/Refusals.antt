@@ -1,11 +1,12 @@
 -- The refusals of a change: its rules, each with its number, in the order of checking.
 use Prim.Native.Nat.{ℕ, _<_}
+use Rattle.decide.specs.Ruled.{Ruled, Passed}
 use Rattle.plan.specs.Cells.{Stays}
 use Rattle.plan.specs.Costs.{IsByte}
 use Rattle.tables.specs.declared.Session.{Session}
 use Rattle.tables.specs.Lent.{Tables, cells}
 use Rattle.tables.specs.Sound.{Sound}
-use Rattle.session.specs.Refusals.{Ruled, Passed, TableRules}
+use Rattle.session.specs.Refusals.{TableRules}
 
 -- A direction is 0 to 3, and the move stays in the plan.
 abbrev pub IsMove : Session → ℕ → ℕ → Type 0

@@ -1,3 +1,4 @@
--- The laws of both.
+-- The laws of all three.
 pub mod DecideLaws
 pub mod ChooseLaws
+pub mod RuledLaws

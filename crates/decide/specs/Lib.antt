@@ -1,3 +1,4 @@
--- What every test of the crates above promises, and what is chosen by one.
+-- What every test of the crates above promises, what is chosen by one, and the number of the first rule that fails.
 pub mod Decides
 pub mod Choose
+pub mod Ruled

@@ -8,13 +8,14 @@ use native.Mathlib.Decide.{ℕ-discrete}
 use lib.ListN.{length}
 use Rattle.decide.specs.Choose.{choose}
 use Rattle.decide.proofs.ChooseLaws.{choose-yes, choose-no}
+use Rattle.decide.specs.Ruled.{Ruled, fails, holds}
+use Rattle.decide.proofs.RuledLaws.{passed-zero, onward}
 use Rattle.plan.specs.Cells.{Size}
 use Rattle.plan.specs.Costs.{planOf}
 use Rattle.tables.specs.declared.Session.{Session}
 use Rattle.tables.specs.Lent.{Tables, cells, floor, Fits}
 use Rattle.entries.specs.Begin.{Openable}
-use Rattle.session.specs.Refusals.{Ruled, fails, holds, OpenRules}
-use Rattle.session.proofs.RefusalLaws.{passed-zero, onward}
+use Rattle.session.specs.Refusals.{OpenRules}
 use Rattle.change.specs.Refusals.{MoveRules}
 use Rattle.drill_file.specs.File as drill-file
 use Rattle.lines.specs.Text.{refusedLine}

@@ -8,6 +8,8 @@ use native.Mathlib.Decide.{ℕ-discrete, decLt}
 use lib.Dec.{leb}
 use lib.ListN.{length, take, drop}
 use lib.Seq.{take-append-seam}
+use Rattle.decide.specs.Ruled.{Ruled, fails, holds, Passed, passed}
+use Rattle.decide.proofs.RuledLaws.{passed-zero, onward}
 use Rattle.method.specs.Session as method-session
 use Rattle.decide.specs.Choose.{choose}
 use Rattle.decide.specs.Decides.{Decides}
@@ -22,9 +24,8 @@ use Rattle.tables.specs.Told.{Told}
 use Rattle.tables.proofs.SoundLaws.{sound-fits}
 use Rattle.session.specs.declared.Answer.{Answer}
 use Rattle.session.specs.declared.Reply.{Reply}
-use Rattle.session.specs.Refusals.{Ruled, fails, holds, Passed, passed}
 use Rattle.session.specs.Promises.{hunterAt, targetAt, Places}
-use Rattle.session.proofs.RefusalLaws.{answered, passed-zero, onward, place-granted, sound-rules}
+use Rattle.session.proofs.RefusalLaws.{answered, place-granted, sound-rules}
 use Rattle.session.proofs.Theorems.{place-answer, hunter-placed-sound, target-placed-sound}
 use Rattle.change.specs.Promise.{Changes}
 use Rattle.change.proofs.Theorems.{change-answer, change-keeps-sound}

@@ -8,6 +8,7 @@ use native.Mathlib.Omega.{arith}
 use native.Mathlib.Decide.{ℕ-discrete}
 use lib.ListN.{length}
 use Rattle.decide.proofs.ChooseLaws.{differ}
+use Rattle.decide.proofs.RuledLaws.{passed-one, ruled-one}
 use Rattle.method.specs.Walk.{NoChain}
 use Rattle.tables.specs.declared.Session.{Session}
 use Rattle.tables.specs.Lent.{Tables, cells, graph}
@@ -18,7 +19,6 @@ use Rattle.session.specs.declared.Answer.the-variants.{Done, Refused}
 use Rattle.session.specs.declared.Reply.{Reply as CallReply}
 use Rattle.session.specs.Refusals.{toldBy as toldByCall, PlaceRules, OpenRules}
 use Rattle.session.specs.Promises.{nothing, Places, Opens, Alike}
-use Rattle.session.proofs.RefusalLaws.{passed-one, ruled-one}
 use Rattle.session.proofs.Theorems.{one-placing, one-opening}
 use Rattle.change.specs.Refusals.{ChangeRules}
 use Rattle.change.specs.Promise.{Changes}

@@ -5,11 +5,12 @@ use mathlib.Core.Logic.{_≢_}
 use mathlib.Core.List.{List}
 use Prim.Native.Nat.{ℕ, _*_}
 use lib.Dec.{ltb}
+use Rattle.decide.specs.Ruled.{Ruled, Passed}
 use Rattle.plan.specs.Cells.{Size}
 use Rattle.tables.specs.declared.Session.{Session}
 use Rattle.tables.specs.Told.{Name, done, caught, none-leads, way, refusal, Told}
 use Rattle.session.specs.declared.Reply.{Reply as CallReply}
-use Rattle.session.specs.Refusals.{toldBy as toldByCall, Ruled, Passed}
+use Rattle.session.specs.Refusals.{toldBy as toldByCall}
 use Rattle.answer.specs.Answer.{toldBy}
 use Rattle.search.specs.declared.Outcome.{Outcome}
 use Rattle.rongdhesi.specs.declared.Reply.{Reply}

@@ -3,10 +3,10 @@ use mathlib.Core.Path.{_≡_}
 use mathlib.Core.List.{List}
 use Prim.Native.Nat.{ℕ, _≤_}
 use lib.ListN.{length}
+use Rattle.decide.proofs.RuledLaws.{passed-one, ruled-one, granted, passed-zero, onward}
 use Rattle.tables.specs.declared.Session.{Session}
 use Rattle.tables.specs.Lent.{Tables, cells, Fits}
 use Rattle.tables.specs.Sound.{Sound}
-use Rattle.session.proofs.RefusalLaws.{passed-one, ruled-one, granted, passed-zero, onward}
 use Rattle.search.specs.Promise.{SearchRules}
 
 module _ {s : Session} {t : Tables} (way : List ℕ) where

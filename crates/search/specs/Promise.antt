@@ -4,13 +4,14 @@ use mathlib.Core.Logic.{_≢_}
 use mathlib.Core.List.{List, [], _++_}
 use Prim.Native.Nat.{ℕ, _≤_}
 use lib.ListN.{length, getD, drop}
+use Rattle.decide.specs.Ruled.{Ruled, Passed}
 use Rattle.method.specs.Numbers.{infinite, renewal}
 use Rattle.method.specs.Session as method
 use Rattle.queue.specs.Queue.{Heap, EntryKept}
 use Rattle.tables.specs.declared.Session.{Session}
 use Rattle.tables.specs.Lent.{Tables, cells, graph, session, core}
 use Rattle.tables.specs.Told.{toldRefusal}
-use Rattle.session.specs.Refusals.{Ruled, Passed, TableRules}
+use Rattle.session.specs.Refusals.{TableRules}
 use Rattle.answer.specs.Answer.{toldBy, tells, cellsOf}
 use Rattle.search.specs.declared.Outcome.{Outcome}
 

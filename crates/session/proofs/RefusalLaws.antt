@@ -2,7 +2,8 @@
 use mathlib.Core.Path.{_≡_, refl, sym, ap, _∙_}
 use mathlib.Core.Logic.{_≢_}
 use Prim.Native.Nat.{ℕ, zero, suc, _<_}
-use native.Mathlib.Omega.{arith}
+use Rattle.decide.specs.Ruled.{holds, Passed}
+use Rattle.decide.proofs.RuledLaws.{passed-one, ruled-one, granted, passed-zero, onward, further, passed-not}
 use Rattle.plan.specs.Cells.{Size}
 use Rattle.tables.specs.declared.Session.{Session}
 use Rattle.tables.specs.Lent.{Tables, cells}
@@ -13,7 +14,7 @@ use Rattle.entries.specs.Begin.{Openable}
 use Rattle.session.specs.declared.Answer.{Answer}
 use Rattle.session.specs.declared.Answer.the-variants.{Done, Refused}
 use Rattle.session.specs.declared.Reply.{Reply}
-use Rattle.session.specs.Refusals.{Ruled, fails, holds, Passed, passed, toldBy, PlaceRules, OpenRules, TableRules}
+use Rattle.session.specs.Refusals.{toldBy, PlaceRules, OpenRules, TableRules}
 use Rattle.session.specs.Promises.{Places}
 
 -- ---- what is told
@@ -66,15 +67,6 @@ placing-done {number = n} e a rules z = record { number = n; rules = rules; answ
 
 -- ---- one number
 
-pub passed-one : (k l : ℕ) → Passed k → Passed l → k ≡ l
-passed-one k l passed passed = refl
-
-pub ruled-one : {P : Type 0} {n : ℕ} {rest : ℕ → Type 0} → ((k l : ℕ) → rest k → rest l → k ≡ l) → (k l : ℕ) → Ruled P n rest k → Ruled P n rest l → k ≡ l
-ruled-one one k l (fails a) (fails b) = refl
-ruled-one one k l (fails a) (holds p r) = absurd (a p)
-ruled-one one k l (holds p r) (fails b) = absurd (b p)
-ruled-one one k l (holds p r) (holds q s) = one k l r s
-
 pub place-number : (s : Session) {cell k l : ℕ} → PlaceRules s cell k → PlaceRules s cell l → k ≡ l
 place-number s {k = k} {l = l} = ruled-one (ruled-one passed-one) k l
 
@@ -82,10 +74,6 @@ pub open-number : {width height hunter target : ℕ} {t : Tables} {k l : ℕ} �
 open-number {k = k} {l = l} = ruled-one (ruled-one (ruled-one (ruled-one (ruled-one passed-one)))) k l
 
 -- ---- number 0
-
-pub granted : {P : Type 0} {n : ℕ} {rest : ℕ → Type 0} {k : ℕ} → Ruled P (suc n) rest k → k ≡ 0 → P × rest k
-granted (fails a) e = absurd (omega arith)
-granted (holds p r) e = (p, r)
 
 pub place-granted : (s : Session) {cell k : ℕ} → PlaceRules s cell k → k ≡ 0 → Size (s .width) (s .height) × (cell < cells s)
 place-granted s r e = let a = granted r e in (a .0, granted (a .1) e .0)
@@ -100,13 +88,6 @@ open-granted r e =
 
 -- ---- every rule holds
 
-pub passed-zero : {k : ℕ} → Passed k → k ≡ 0
-passed-zero passed = refl
-
-pub onward : {P : Type 0} {n : ℕ} {rest : ℕ → Type 0} {k : ℕ} → P → Ruled P n rest k → rest k
-onward p (fails a) = absurd (a p)
-onward p (holds q r) = r
-
 pub place-passes : (s : Session) {cell k : ℕ} → PlaceRules s cell k → Size (s .width) (s .height) → cell < cells s → k ≡ 0
 place-passes s r z l = passed-zero (onward l (onward z r))
 
@@ -116,13 +97,6 @@ open-passes r o = passed-zero (onward (o .obeys .bytes) (onward (o .obeys .edges
 -- ---- rules one after the other
 
 -- Tables that break a rule break the same one whatever rules follow ..
-further : {P : Type 0} {n : ℕ} {rest rest′ : ℕ → Type 0} {k : ℕ} → (rest k → k ≢ 0 → rest′ k) → Ruled P n rest k → k ≢ 0 → Ruled P n rest′ k
-further next (fails a) n = fails a
-further next (holds p r) n = holds p (next r n)
-
-passed-not : {P : Type 0} {k : ℕ} → Passed k → k ≢ 0 → P
-passed-not p n = absurd (n (passed-zero p))
-
 pub table-number : {s : Session} {t : Tables} {rest : ℕ → Type 0} {k : ℕ} → TableRules s t Passed k → k ≢ 0 → TableRules s t rest k
 table-number = further (further (further passed-not))
 

@@ -1,5 +1,6 @@
 -- Document 01's table of refusals: for each call its rules, each with its number, in the order of checking. Here those of place, open and every call on a session's tables.
 use Prim.Native.Nat.{ℕ, _*_, _<_}
+use Rattle.decide.specs.Ruled.{Ruled, Passed}
 use Rattle.plan.specs.Cells.{Size}
 use Rattle.plan.specs.Costs.{planOf, Bytes, Edges}
 use Rattle.tables.specs.declared.Session.{Session}
@@ -8,15 +9,6 @@ use Rattle.tables.specs.Sound.{Sound}
 use Rattle.tables.specs.Told.{Told, toldDone, toldRefusal}
 use Rattle.session.specs.declared.Answer.{Answer}
 use Rattle.session.specs.declared.Answer.the-variants.{Done, Refused}
-
--- A rule with its number, and the rules after it: the number is that of the first rule that fails ..
-pub data Ruled (P : Type 0) (number : ℕ) (rest : ℕ → Type 0) : ℕ → Type 0 where
-  fails : (P → ⊥) → Ruled P number rest number
-  holds : {k : ℕ} → P → rest k → Ruled P number rest k
-
--- .. and 0 where every rule holds.
-pub data Passed : ℕ → Type 0 where
-  passed : Passed 0
 
 -- What an answer tells.
 abbrev pub toldBy : Answer → Told

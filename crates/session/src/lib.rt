@@ -2,8 +2,9 @@
 use entries;
 use plan;
 use tables;
+ghost use Rattle.decide.specs.Ruled.{Passed};
 ghost use Rattle.tables.specs.Lent.{before, after};
-ghost use Rattle.session.specs.Refusals.{Passed, PlaceRules, OpenRules, TableRules};
+ghost use Rattle.session.specs.Refusals.{PlaceRules, OpenRules, TableRules};
 ghost use Rattle.session.specs.Promises.{hunterAt, targetAt, Places, Opens};
 
 // Done, or refused with document 01's number.

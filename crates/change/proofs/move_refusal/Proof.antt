@@ -3,7 +3,7 @@ use Prim.Native.Nat.{_*_, _<_}
 use Rattle.decide.specs.Decides.{Decides}
 use Rattle.decide.proofs.DecideLaws.{refuted}
 use borrow.Author.Tests.{not-true, not-false}
-use Rattle.session.specs.Refusals.{fails, holds, passed}
+use Rattle.decide.specs.Ruled.{fails, holds, passed}
 use Rattle.plan.specs.Cells.{Stays}
 use Rattle.plan.proofs.MoveLaws.{area, placed}
 use native.Mathlib.Omega.{arith}

@@ -3,8 +3,8 @@ use mathlib.Core.Path.{refl}
 use native.Mathlib.Omega.{arith}
 use borrow.Author.Tests.{not-true, not-false}
 use Rattle.decide.proofs.DecideLaws.{refuted}
+use Rattle.decide.specs.Ruled.{fails, holds, passed}
 use Rattle.plan.proofs.MoveLaws.{area}
-use Rattle.session.specs.Refusals.{fails, holds, passed}
 use borrow.Author.Needs.{needs}
 use Rattle.rongdhesi.proofs.rongdhesi_lengths.Statement.{statement}
 use Rattle.rongdhesi.proofs.rongdhesi_lengths.Tie as tie

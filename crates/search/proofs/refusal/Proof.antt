@@ -1,7 +1,7 @@
 -- The tables' rules by the promise of `table_refusal`, then the room for the way (RefusalLaws of `session`).
 use native.Mathlib.Omega.{arith}
+use Rattle.decide.specs.Ruled.{fails, holds, passed}
 use Rattle.plan.proofs.MoveLaws.{area}
-use Rattle.session.specs.Refusals.{fails, holds, passed}
 use Rattle.session.proofs.RefusalLaws.{table-number, tables-granted, sound-rules}
 use borrow.Author.Needs.{needs}
 use Rattle.search.proofs.refusal.Statement.{statement}

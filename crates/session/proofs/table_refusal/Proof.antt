@@ -1,7 +1,7 @@
 -- The three rules in their order, each by the promise of the function that asks it: size, lengths, soundness.
+use Rattle.decide.specs.Ruled.{fails, holds, passed}
 use Rattle.decide.proofs.DecideLaws.{refuted}
 use borrow.Author.Tests.{not-true, not-false}
-use Rattle.session.specs.Refusals.{fails, holds, passed}
 use borrow.Author.Needs.{needs}
 use Rattle.session.proofs.table_refusal.Statement.{statement}
 use Rattle.session.proofs.table_refusal.Tie as tie
