@@ -121,15 +121,16 @@ module _ {s : Session} {t : Tables} (S : Sound s t) where
         stands = subst (λ w. Rattle.plan.specs.Cells.Stands w (taken .session .goal) (a .row) (a .column)) (H .wide)
             (subst (λ x. Rattle.plan.specs.Cells.Stands (r .width) x (a .row) (a .column)) (ap (λ σ. σ .goal) (H .record-is)) (O .target-at))
 
-    pub run-started : Started a (r .count) (tables (t .plan) g₁ rhs₁ parent₁ k1₁ k2₁ place₁ list₁)
+    pub run-started : Started a (3 * cells s) (r .count) (tables (t .plan) g₁ rhs₁ parent₁ k1₁ k2₁ place₁ list₁)
     run-started =
         let R = ready laws (S .numbers) in
-        subst (λ x. Started x (r .count) t₁) (sym aim-is)
+        subst (λ x. Started x (3 * cells s) (r .count) t₁) (sym aim-is)
         (record {
           held = record { sized = subst (λ T. method.Sized (cells s) T) (sym (H .tables-are)) (takenOver-sized (graph s t) (session s) (S .numbers .sized)); heap = H .heap };
           bound = boundTaken (graph s t) (session s) (core t);
           during = subst (λ T. During (huntTaken (graph s t) (session s) (core t)) (boundTaken (graph s t) (session s) (core t)) T) (sym (H .tables-are)) (during-start laws (S .numbers));
           small = omega (arith, R .searches-lt, area (S .plan .size));
+          limited = omega (arith, area (S .plan .size));
         })
 
     pub few-searches : r .searches < 1000
@@ -138,12 +139,12 @@ module _ {s : Session} {t : Tables} (S : Sound s t) where
     -- ---- after the last step
 
     module _ {n steps : ℕ} {over : Bool} {g₂ rhs₂ parent₂ k1₂ k2₂ place₂ list₂ : List ℕ}
-        (F : Finished a (r .count) (tables (t .plan) g₁ rhs₁ parent₁ k1₁ k2₁ place₁ list₁) (tables (t .plan) g₂ rhs₂ parent₂ k1₂ k2₂ place₂ list₂) n steps over) where
+        (F : Finished a (3 * cells s) (r .count) (tables (t .plan) g₁ rhs₁ parent₁ k1₁ k2₁ place₁ list₁) (tables (t .plan) g₂ rhs₂ parent₂ k1₂ k2₂ place₂ list₂) n steps over) where
       abbrev t₂ : Tables
       t₂ = tables (t .plan) g₂ rhs₂ parent₂ k1₂ k2₂ place₂ list₂
 
-      finished : Finished b (r .count) t₁ t₂ n steps over
-      finished = subst (λ x. Finished x (r .count) t₁ t₂ n steps over) aim-is F
+      finished : Finished b (3 * cells s) (r .count) t₁ t₂ n steps over
+      finished = subst (λ x. Finished x (3 * cells s) (r .count) t₁ t₂ n steps over) aim-is F
 
       ran-is : core t₂ ≡ ran .tables
       ran-is = finished .tables .is ∙ ap (λ T. run (huntTaken (graph s t) (session s) (core t)) (3 * cells s) T .tables) (H .tables-are)

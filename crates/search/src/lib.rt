@@ -43,7 +43,7 @@ fn refusal(
     0
 }
 
-// A search of sound tables: for a caller who knows that they are, so that the check is not paid.
+// A search of sound tables: for a caller who knows that they are, so that the check is not paid. At most three steps for each cell.
 pub fn search_sound(
     s: Session,
     plan: &[u8],
@@ -68,7 +68,8 @@ pub fn search_sound(
     }
     let mut t = take_over::take_over(s, plan, g, rhs, parent, k1, k2, place, list);
     let a = entries::aim_of(t);
-    let ran = steps::run(a, plan, g, rhs, parent, k1, k2, place, list, t.count);
+    let limit = 3 * (s.height * s.width);
+    let ran = steps::run(a, plan, g, rhs, parent, k1, k2, place, list, t.count, limit);
     t.count = ran.count;
     t.searches += 1;
     let answer = answer::answered(a, ran.ended, ran.steps, rhs, parent, way);

@@ -4,7 +4,7 @@ use mathlib.Core.Bool.{Bool, true, false}
 use mathlib.Core.Logic.{⊎-elim}
 use mathlib.Core.Option.{some}
 use mathlib.Core.List.{List, []}
-use Prim.Native.Nat.{ℕ, suc, _+_, _-_, _*_, _≤_, _<_}
+use Prim.Native.Nat.{ℕ, suc, _+_, _-_, _≤_, _<_}
 use native.Mathlib.Omega.{arith}
 use lib.ListN.{getD, length}
 use Rattle.method.specs.Numbers.{infinite}
@@ -64,9 +64,9 @@ pub record Going (a : Aim) (plan : List ℕ) (count₀ count : ℕ) (t₀ t : Ta
   pub rest : Rest (hunt a plan) (core t₀) (core t) limit steps
   pub untouched : steps ≡ 0 → (count ≡ count₀) × (t ≡ t₀)
 
-pub going-first : {a : Aim} {count : ℕ} {plan g rhs parent k1 k2 place list : List ℕ} (limit : ℕ) → Started a count (tables plan g rhs parent k1 k2 place list)
+pub going-first : {a : Aim} {limit count : ℕ} {plan g rhs parent k1 k2 place list : List ℕ} → Started a limit count (tables plan g rhs parent k1 k2 place list)
     → Going a plan count count (tables plan g rhs parent k1 k2 place list) (tables plan g rhs parent k1 k2 place list) limit 0
-going-first {a} {plan = plan} limit S = record { held = S .held; bound = S .bound; during = S .during; small = S .small; rest = rest-first (hunt a plan) _ limit; untouched = λ _. (refl, refl) }
+going-first {a} {limit} {plan = plan} S = record { held = S .held; bound = S .bound; during = S .during; small = S .small; rest = rest-first (hunt a plan) _ limit; untouched = λ _. (refl, refl) }
 
 module _ {a : Aim} {count₀ count limit steps : ℕ} {t₀ : Tables} {plan g rhs parent k1 k2 place list : List ℕ}
     (A : Aimed a plan) (G : Going a plan count₀ count t₀ (tables plan g rhs parent k1 k2 place list) limit steps) where
@@ -112,12 +112,12 @@ module _ {a : Aim} {count₀ count limit steps : ℕ} {t₀ : Tables} {plan g rh
       untouched = λ e. absurd (omega (arith, e));
     }
 
-module _ {a : Aim} {count₀ count steps : ℕ} {plan g₀ rhs₀ parent₀ k1₀ k2₀ place₀ list₀ g rhs parent k1 k2 place list : List ℕ}
-    (G : Going a plan count₀ count (tables plan g₀ rhs₀ parent₀ k1₀ k2₀ place₀ list₀) (tables plan g rhs parent k1 k2 place list) (3 * area a) steps) where
-  finished-by : {b : Bool} → run (hunt a plan) (3 * area a - steps) (core (tables plan g rhs parent k1 k2 place list)) .tables ≡ core (tables plan g rhs parent k1 k2 place list)
-      → length (run (hunt a plan) (3 * area a - steps) (core (tables plan g rhs parent k1 k2 place list)) .steps) ≡ 0
-      → run (hunt a plan) (3 * area a - steps) (core (tables plan g rhs parent k1 k2 place list)) .ended ≡ b
-      → Finished a count₀ (tables plan g₀ rhs₀ parent₀ k1₀ k2₀ place₀ list₀) (tables plan g rhs parent k1 k2 place list) count steps b
+module _ {a : Aim} {count₀ count limit steps : ℕ} {plan g₀ rhs₀ parent₀ k1₀ k2₀ place₀ list₀ g rhs parent k1 k2 place list : List ℕ}
+    (G : Going a plan count₀ count (tables plan g₀ rhs₀ parent₀ k1₀ k2₀ place₀ list₀) (tables plan g rhs parent k1 k2 place list) limit steps) where
+  finished-by : {b : Bool} → run (hunt a plan) (limit - steps) (core (tables plan g rhs parent k1 k2 place list)) .tables ≡ core (tables plan g rhs parent k1 k2 place list)
+      → length (run (hunt a plan) (limit - steps) (core (tables plan g rhs parent k1 k2 place list)) .steps) ≡ 0
+      → run (hunt a plan) (limit - steps) (core (tables plan g rhs parent k1 k2 place list)) .ended ≡ b
+      → Finished a limit count₀ (tables plan g₀ rhs₀ parent₀ k1₀ k2₀ place₀ list₀) (tables plan g rhs parent k1 k2 place list) count steps b
   finished-by et es ee = record {
     tables = record { is = sym (G .rest .tables ∙ et); heap = G .held .heap };
     steps-are = omega (arith, G .rest .steps-are, es);
@@ -127,21 +127,21 @@ module _ {a : Aim} {count₀ count steps : ℕ} {plan g₀ rhs₀ parent₀ k1�
 
   -- no next cell: the search has ended
   pub finished-done : {r : Choice} → r ≡ Done → Chosen a g rhs k1 k2 place r
-      → Finished a count₀ (tables plan g₀ rhs₀ parent₀ k1₀ k2₀ place₀ list₀) (tables plan g rhs parent k1 k2 place list) count steps true
+      → Finished a limit count₀ (tables plan g₀ rhs₀ parent₀ k1₀ k2₀ place₀ list₀) (tables plan g rhs parent k1 k2 place list) count steps true
   finished-done e C = finished-by (ap (λ r. r .tables) none-left) (ap (λ r. length (r .steps)) none-left) (ap (λ r. r .ended) none-left)
     where
-      none-left : run (hunt a plan) (3 * area a - steps) (core (tables plan g rhs parent k1 k2 place list)) ≡ record { tables = core (tables plan g rhs parent k1 k2 place list); steps = []; ended = true }
-      none-left = run-none (hunt a plan) (3 * area a - steps) (core (tables plan g rhs parent k1 k2 place list)) (sym (C plan parent list) ∙ ap nextOf e)
+      none-left : run (hunt a plan) (limit - steps) (core (tables plan g rhs parent k1 k2 place list)) ≡ record { tables = core (tables plan g rhs parent k1 k2 place list); steps = []; ended = true }
+      none-left = run-none (hunt a plan) (limit - steps) (core (tables plan g rhs parent k1 k2 place list)) (sym (C plan parent list) ∙ ap nextOf e)
 
   -- the limit is reached and there is a next cell: the search was cut off
-  pub finished-cut : {u : ℕ} {r : Choice} → r ≡ On u → Chosen a g rhs k1 k2 place r → 3 * area a ≤ steps
-      → Finished a count₀ (tables plan g₀ rhs₀ parent₀ k1₀ k2₀ place₀ list₀) (tables plan g rhs parent k1 k2 place list) count steps false
+  pub finished-cut : {u : ℕ} {r : Choice} → r ≡ On u → Chosen a g rhs k1 k2 place r → limit ≤ steps
+      → Finished a limit count₀ (tables plan g₀ rhs₀ parent₀ k1₀ k2₀ place₀ list₀) (tables plan g rhs parent k1 k2 place list) count steps false
   unfolding isNone
   finished-cut {u} e C l = finished-by (ap (λ r. r .tables) cut) (ap (λ r. length (r .steps)) cut) (ap (λ r. r .ended) cut ∙ ap isNone (sym (C plan parent list) ∙ ap nextOf e))
     where
       over : (limit steps : ℕ) → limit ≤ steps → limit - steps ≡ 0
       over limit steps h = omega arith
 
-      cut : run (hunt a plan) (3 * area a - steps) (core (tables plan g rhs parent k1 k2 place list))
+      cut : run (hunt a plan) (limit - steps) (core (tables plan g rhs parent k1 k2 place list))
           ≡ record { tables = core (tables plan g rhs parent k1 k2 place list); steps = []; ended = isNone (nextCell (hunt a plan) (core (tables plan g rhs parent k1 k2 place list))) }
-      cut = ap (λ n. run (hunt a plan) n (core (tables plan g rhs parent k1 k2 place list))) (over (3 * area a) steps l) ∙ run-zero (hunt a plan) (core (tables plan g rhs parent k1 k2 place list))
+      cut = ap (λ n. run (hunt a plan) n (core (tables plan g rhs parent k1 k2 place list))) (over limit steps l) ∙ run-zero (hunt a plan) (core (tables plan g rhs parent k1 k2 place list))

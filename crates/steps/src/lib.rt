@@ -1,4 +1,4 @@
-// The steps of a search over the lent tables: put back, lower, raise, and the loop of at most 3N of them.
+// The steps of a search over the lent tables: put back, lower, raise, and the loop over them, up to a limit.
 use choices;
 use entries;
 use entries::Aim;
@@ -129,7 +129,7 @@ pub struct Ran {
     pub count: usize,
 }
 
-// The search's loop: at most three steps for each cell.
+// The search's loop: at most `limit` steps.
 pub fn run(
     a: Aim,
     plan: &[u8],
@@ -141,12 +141,12 @@ pub fn run(
     place: &mut [u16],
     list: &mut [u16],
     count: usize,
+    limit: usize,
 ) -> Ran
     requires { ⌜ Aimed a (now plan) ⌝ }
-    requires { ⌜ Started a count (given plan g rhs parent k1 k2 place list) ⌝ }
-    ensures { λ r. ⌜ Finished a count (before plan g rhs parent k1 k2 place list) (after plan g rhs parent k1 k2 place list) (r .count) (r .steps) (r .ended) ⌝ }
+    requires { ⌜ Started a limit count (given plan g rhs parent k1 k2 place list) ⌝ }
+    ensures { λ r. ⌜ Finished a limit count (before plan g rhs parent k1 k2 place list) (after plan g rhs parent k1 k2 place list) (r .count) (r .steps) (r .ended) ⌝ }
 {
-    let limit = 3 * (a.height * a.width);
     let mut n = count;
     let mut steps = 0usize;
     while steps < limit {

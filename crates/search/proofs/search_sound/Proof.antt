@@ -1,6 +1,7 @@
 -- Caught, or taken over, run and answered: each part has the method's tables and answer by its own promise, and SearchLaws puts them together (`searched`).
 use mathlib.Core.Path.{refl, _∙_}
 use native.Mathlib.Omega.{arith}
+use Rattle.plan.proofs.MoveLaws.{area}
 use Rattle.search.proofs.SearchLaws.{searched-caught, run-aimed, run-started, few-searches, answering, searched}
 use borrow.Author.Needs.{needs}
 use Rattle.search.proofs.search_sound.Statement.{statement}
@@ -20,11 +21,14 @@ abbrev after-take-over-from-aim-of : tie.After-aim-of → tie.After-take-over
 after-take-over-from-aim-of c =
     c .before .before .before .before .before .before .before .before .before .before .before .before .before .before .before
 
+abbrev at-start-from-aim-of : tie.After-aim-of → tie.Start
+at-start-from-aim-of c = at-start-from-struct-known (apart (after-take-over-from-aim-of c) .before)
+
 abbrev after-aim-of-for-run : tie.After-run-arg7 → tie.After-aim-of
-after-aim-of-for-run c = c .before .before .before .before .before .before .before
+after-aim-of-for-run c = c .before .before .before .before .before .before .before .before
 
 abbrev at-start-for-run : tie.After-run-arg7 → tie.Start
-at-start-for-run c = at-start-from-struct-known (apart (after-take-over-from-aim-of (after-aim-of-for-run c)) .before)
+at-start-for-run c = at-start-from-aim-of (after-aim-of-for-run c)
 
 abbrev after-aim-of-from-run : tie.After-run → tie.After-aim-of
 after-aim-of-from-run c = after-aim-of-for-run (c .before)
@@ -35,7 +39,7 @@ after-take-over-from-run c = after-take-over-from-aim-of (after-aim-of-from-run 
 abbrev at-start-from-run : tie.After-run → tie.Start
 at-start-from-run c = at-start-for-run (c .before)
 
-abbrev after-run-for-add-t : tie.After-struct-known3 → tie.After-run
+abbrev after-run-for-add-t : tie.After-struct-known4 → tie.After-run
 after-run-for-add-t c = c .before .before .before .before .before .before .before .before .before .before .before .before .before .before .before
 
 abbrev after-run-for-answered : tie.After-answered-arg3 → tie.After-run
@@ -70,6 +74,12 @@ take-over-requires c κs = search needs
 
 aim-of-requires : tie.Need-aim-of-requires
 aim-of-requires c κs = search needs
+
+mul-limit : tie.Need-mul-limit
+mul-limit c = omega (arith, area (at-start-from-aim-of (c .before) .pre .0 .plan .size))
+
+mul-limit-2 : tie.Need-mul-limit-2
+mul-limit-2 c = omega (arith, area (at-start-from-aim-of (c .before) .pre .0 .plan .size))
 
 run-requires : tie.Need-run-requires
 run-requires c κs =
@@ -141,6 +151,8 @@ search-sound-spec =
     returns
     take-over-requires
     aim-of-requires
+    mul-limit
+    mul-limit-2
     run-requires
     add-t
     answered-requires

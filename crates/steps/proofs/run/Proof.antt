@@ -2,7 +2,6 @@
 use borrow.Author.Needs.{needs}
 use Prim.Native.Nat.{_-_}
 use native.Mathlib.Omega.{arith}
-use Rattle.plan.proofs.MoveLaws.{area}
 use Rattle.tables.specs.Lent.{Tables, tables}
 use Rattle.steps.proofs.StepLaws.{Lengths, same-lengths}
 use Rattle.steps.proofs.LoopLaws.{Going, going-first, choosing, stepping, going-more, finished-done, finished-cut}
@@ -17,11 +16,11 @@ abbrev μ-loop : tie.MeasureT-loop
 μ-loop a plan g₀ rhs₀ parent₀ k1₀ k2₀ place₀ list₀ count limit n₀ steps₀ g rhs parent k1 k2 place list n steps = limit - steps
 
 -- The places that the answers look back to.
-abbrev at-start-for-mul-limit : tie.After-struct-known Inv-loop μ-loop → tie.Start Inv-loop μ-loop
-at-start-for-mul-limit c = c .before .before .before .before .before .before .before .before .before
+abbrev at-start-for-loop-holds : tie.After-slice-known7 Inv-loop μ-loop → tie.Start Inv-loop μ-loop
+at-start-for-loop-holds c = c .before .before .before .before .before .before .before .before
 
 abbrev at-start-from-loop : tie.At-loop Inv-loop μ-loop → tie.Start Inv-loop μ-loop
-at-start-from-loop c = at-start-for-mul-limit (c .before)
+at-start-from-loop c = at-start-for-loop-holds (c .before)
 
 abbrev after-loop-for-chosen-2 : tie.After-chosen-arg12 Inv-loop μ-loop → tie.After-loop Inv-loop μ-loop
 after-loop-for-chosen-2 c = c .before .before .before .before .before .before
@@ -69,14 +68,8 @@ held-at l =
 lengths : (l : tie.At-loop Inv-loop μ-loop) → Lengths (held-at l) (got (at-start-from-loop l))
 lengths l = same-lengths (l .loop .inv .held) (at-start-from-loop l .pre .1 .held)
 
-mul-limit : tie.Need-mul-limit Inv-loop μ-loop
-mul-limit c = omega (arith, area (at-start-for-mul-limit c .pre .0 .obeys .size))
-
-mul-limit-2 : tie.Need-mul-limit-2 Inv-loop μ-loop
-mul-limit-2 c = omega (arith, area (at-start-for-mul-limit c .pre .0 .obeys .size))
-
 loop-holds : tie.Need-loop-holds Inv-loop μ-loop
-loop-holds c = going-first _ (at-start-for-mul-limit c .pre .1)
+loop-holds c = going-first (at-start-for-loop-holds c .pre .1)
 
 chosen-requires : tie.Need-chosen-requires Inv-loop μ-loop
 chosen-requires c κs = choosing (at-start-from-loop (in-loop-for-chosen c .before) .pre .0) (in-loop-for-chosen c .before .loop .inv)
@@ -120,8 +113,7 @@ step-requires c κs =
     (after-next-for-step c .before .before .chosen .ensures)
 
 add-steps : tie.Need-add-steps Inv-loop μ-loop
-add-steps c =
-    omega (arith, in-loop-for-loop-again c .loop-test .taken, area (at-start-from-loop (in-loop-for-loop-again c .before) .pre .0 .obeys .size))
+add-steps c = omega (arith, in-loop-for-loop-again c .loop-test .taken, at-start-from-loop (in-loop-for-loop-again c .before) .pre .1 .limited)
 
 loop-less : tie.Need-loop-less Inv-loop μ-loop
 loop-less c = omega (arith, in-loop-for-loop-again c .loop-test .taken)
@@ -204,8 +196,6 @@ run-spec =
     (tie.spec
     Inv-loop
     μ-loop
-    mul-limit
-    mul-limit-2
     loop-holds
     chosen-requires
     enum-known-next
