@@ -18,8 +18,9 @@ use Rattle.answer.specs.Answer.{answerOf, cellsOf}
 use Rattle.drill_file.specs.declared.Action.{Action}
 use Rattle.drill_file.specs.declared.Action.the-variants.{Change, Hunter, Target, Search, Bad}
 use Rattle.drill_file.specs.File.{trailerOf, actionsFrom, actionsOf}
-use Rattle.lines.specs.Text.{bytes, decimal, spaced, line, refusedLine}
-use Rattle.lines.proofs.TextLaws.{decimal-few}
+use Rattle.text.specs.Text.{bytes, decimal}
+use Rattle.text.proofs.DecimalLaws.{decimal-few}
+use Rattle.lines.specs.Lines.{spaced, line, refusedLine}
 use Rattle.drill.specs.Numbers.{moveNumber}
 use Rattle.drill.specs.Play.{Standing, Turn, turn, played}
 use Rattle.drill.specs.Output.{fileNumber, begun, output}

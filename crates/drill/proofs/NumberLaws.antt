@@ -18,7 +18,7 @@ use Rattle.entries.specs.Begin.{Openable}
 use Rattle.session.specs.Refusals.{OpenRules}
 use Rattle.change.specs.Refusals.{MoveRules}
 use Rattle.drill_file.specs.File as drill-file
-use Rattle.lines.specs.Text.{refusedLine}
+use Rattle.lines.specs.Lines.{refusedLine}
 use Rattle.drill.specs.Numbers.{openNumber, moveNumber}
 use Rattle.drill.specs.Output.{planIn, fileNumber, output}
 

@@ -12,8 +12,8 @@ use Rattle.tables.specs.declared.Session.{Session}
 use Rattle.tables.specs.Lent.{Tables, cells}
 use Rattle.drill_file.specs.declared.Action.{Action}
 use Rattle.drill_file.specs.File.{actionsFrom, actionsOf}
-use Rattle.lines.specs.Text.{refusedLine, room}
-use Rattle.lines.specs.Put.{Put}
+use Rattle.text.specs.Put.{Put}
+use Rattle.lines.specs.Lines.{refusedLine, room}
 use Rattle.drill.specs.declared.Played.{Played}
 use Rattle.drill.specs.Play.{Standing, played, leftBy}
 use Rattle.drill.specs.Output.{fileNumber, begun, output}

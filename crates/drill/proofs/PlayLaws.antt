@@ -40,9 +40,9 @@ use Rattle.demands.proofs.Demands.{demand-2, demand-3}
 use Rattle.drill_file.specs.declared.Action.{Action}
 use Rattle.drill_file.specs.declared.Action.the-variants.{Change, Hunter, Target, Search, Bad}
 use Rattle.drill_file.specs.File.{actionAt, actionsFrom}
-use Rattle.lines.specs.Text.{refusedLine, line, room}
-use Rattle.lines.specs.Put.{Put}
-use Rattle.lines.proofs.PutLaws.{put-nothing, put-then, put-as, put-end}
+use Rattle.text.specs.Put.{Put}
+use Rattle.text.proofs.PutLaws.{put-nothing, put-then, put-as, put-end}
+use Rattle.lines.specs.Lines.{refusedLine, line, room}
 use Rattle.drill.specs.declared.Turned.{Turned}
 use Rattle.drill.specs.Numbers.{moveNumber}
 use Rattle.drill.specs.Play.{Standing, standing, Turn, accepted, refused, turn, played, leftBy, wayLeft}

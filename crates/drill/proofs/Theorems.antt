@@ -14,7 +14,7 @@ use Rattle.answer.specs.Answer.{countOf, cellsOf}
 use Rattle.search.specs.Promise.{outcome, Searches}
 use Rattle.demands.proofs.Demands.{not-refused}
 use Rattle.drill_file.specs.declared.Action.the-variants.{Change, Hunter, Target, Search}
-use Rattle.lines.specs.Text.{line}
+use Rattle.lines.specs.Lines.{line}
 use Rattle.drill.specs.Play.{turn}
 use Rattle.drill.specs.Promises.{stands, told}
 use Rattle.drill.proofs.PlayLaws.{hunter-replied, target-replied, change-replied, search-is}

@@ -3,7 +3,7 @@ use mathlib.Core.List.{List, [], _∷_, _++_}
 use Prim.Native.Nat.{ℕ}
 use Rattle.method.specs.Numbers.{infinite}
 use Rattle.method.specs.Steps.{lower, raise}
-use Rattle.lines.specs.Text.{bytes}
+use Rattle.text.specs.Text.{bytes}
 use Rattle.drill_file.specs.File.{actionsOf}
 use Rattle.drill.specs.Play.{Taken, takenBy, leftBy}
 use Rattle.drill.specs.Output.{begun, output}

@@ -8,7 +8,7 @@ use Rattle.method.specs.Session.{opened, fresh}
 use Rattle.plan.specs.Costs.{Plan, planOf}
 use Rattle.plan.specs.Grid.{graphOf}
 use Rattle.drill_file.specs.File.{trailerOf, cells, actionsOf, formNumber}
-use Rattle.lines.specs.Text.{refusedLine}
+use Rattle.lines.specs.Lines.{refusedLine}
 use Rattle.drill.specs.Numbers.{openNumber}
 use Rattle.drill.specs.Play.{Standing, standing, played}
 

@@ -15,7 +15,7 @@ use Rattle.change.specs.Promise.{changedOver}
 use Rattle.search.specs.Promise.{written}
 use Rattle.drill_file.specs.declared.Action.{Action}
 use Rattle.drill_file.specs.declared.Action.the-variants.{Change, Hunter, Target, Search, Bad}
-use Rattle.lines.specs.Text.{refusedLine, line}
+use Rattle.lines.specs.Lines.{refusedLine, line}
 use Rattle.drill.specs.Numbers.{moveNumber}
 
 -- The plan as it is, and the session with its tables as the method has them.

@@ -13,8 +13,8 @@ use Rattle.session.specs.Promises.{nothing}
 use Rattle.search.specs.Promise.{written}
 use Rattle.drill_file.specs.declared.Action.{Action}
 use Rattle.drill_file.specs.File as drill-file
-use Rattle.lines.specs.Text.{refusedLine, room}
-use Rattle.lines.specs.Put.{Put}
+use Rattle.text.specs.Put.{Put}
+use Rattle.lines.specs.Lines.{refusedLine, room}
 use Rattle.drill.specs.declared.Turned.{Turned}
 use Rattle.drill.specs.declared.Played.{Played}
 use Rattle.drill.specs.Play.{Standing, standing, turn, played, leftBy, wayLeft}

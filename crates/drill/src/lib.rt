@@ -11,8 +11,8 @@ ghost use lib.ListN.{length};
 ghost use Rattle.decide.specs.Decides.{Decides};
 ghost use Rattle.plan.specs.Cells.{Size};
 ghost use Rattle.tables.specs.Lent.{cells, given, before, after};
-ghost use Rattle.lines.specs.Text.{room};
-ghost use Rattle.lines.specs.Put.{Put};
+ghost use Rattle.text.specs.Put.{Put};
+ghost use Rattle.lines.specs.Lines.{room};
 ghost use Rattle.drill_file.specs.declared.Action.the-variants.{Change, Search};
 ghost use Rattle.drill.specs.Promises.{told, Ready, Turns};
 

@@ -6,8 +6,8 @@ use lib.ListN.{take}
 use Rattle.answer.specs.Answer.{countOf}
 use Rattle.answer.specs.declared.Answer.{Answer}
 use Rattle.answer.specs.declared.Answer.the-variants.{Way}
-use Rattle.lines.specs.Text.{line}
-use Rattle.lines.specs.Put.{Put}
+use Rattle.text.specs.Put.{Put}
+use Rattle.lines.specs.Lines.{line}
 
 -- The line of the answer that it is.
 pub put-line : {b t : List ℕ} {at r : ℕ} {a is : Answer} (way : List ℕ) → a ≡ is → Put b at (line is (take (countOf is) way)) r t → Put b at (line a (take (countOf a) way)) r t

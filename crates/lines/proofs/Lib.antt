@@ -1,3 +1,2 @@
-pub mod TextLaws
-pub mod PutLaws
+pub mod CellLaws
 pub mod AnswerLaws

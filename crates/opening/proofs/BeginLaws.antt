@@ -19,8 +19,8 @@ use Rattle.change.specs.Promise.{withPlan}
 use Rattle.drill_file.specs.declared.Trailer.{Trailer}
 use Rattle.drill_file.specs.File.{trailerOf, trailerIn, cells, cellsIn, formNumber}
 use Rattle.drill_file.proofs.FileLaws.{trailer-there}
-use Rattle.lines.specs.Put.{Put}
-use Rattle.lines.proofs.PutLaws.{put-byte, put-then, put-as}
+use Rattle.text.specs.Put.{Put}
+use Rattle.text.proofs.PutLaws.{put-byte, put-then, put-as}
 use Rattle.drill.specs.declared.Played.{Played}
 use Rattle.drill.specs.Numbers.{openNumber}
 use Rattle.drill.specs.Play.{standing}

@@ -10,7 +10,7 @@ ghost use mathlib.Core.Path.{_≡_};
 ghost use Prim.Native.Nat.{_≤_};
 ghost use lib.ListN.{length, take};
 ghost use Rattle.tables.specs.Lent.{given, before, after, Fits};
-ghost use Rattle.lines.specs.Text.{room};
+ghost use Rattle.lines.specs.Lines.{room};
 ghost use Rattle.drill_file.specs.File.{trailerIn, cellsIn};
 ghost use Rattle.drill.specs.Output.{fileNumber};
 ghost use Rattle.drill.specs.Promises.{Opening, Refuses, Begins};

@@ -9,7 +9,7 @@ use lib.Seq.{getD-set-same, length-take-le}
 use Rattle.tables.specs.declared.Session.{Session}
 use Rattle.tables.specs.Lent.{Tables}
 use Rattle.drill_file.specs.File.{actionsFrom}
-use Rattle.lines.proofs.PutLaws.{put-end}
+use Rattle.text.proofs.PutLaws.{put-end}
 use Rattle.drill.specs.declared.Played.{Played}
 use Rattle.drill.specs.Output.{output}
 use Rattle.drill.specs.Promises.{stands, Playing, Plays, Unprinted, NextPiece}

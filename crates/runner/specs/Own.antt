@@ -5,7 +5,7 @@ use Prim.Native.Nat.{ℕ, _*_, _≤_}
 use denote.Ref.{now}
 use lib.ListN.{length, take}
 use Rattle.tables.specs.Lent.{Lent, Tables}
-use Rattle.lines.specs.Text.{room}
+use Rattle.lines.specs.Lines.{room}
 use Rattle.drill.specs.Promises.{Opening}
 use Rattle.printing.specs.Promises.{counted}
 

@@ -1,7 +1,7 @@
 -- `drill::put_reply` puts the line of a refusal, and nothing where the call is done.
 use mathlib.Core.Path.{refl, sym, ap}
 use Rattle.drill.specs.Promises.{told}
-use Rattle.lines.proofs.PutLaws.{put-nothing, put-as}
+use Rattle.text.proofs.PutLaws.{put-nothing, put-as}
 use borrow.Author.Needs.{needs}
 use Rattle.drill.proofs.put_reply.Statement.{statement}
 use Rattle.drill.proofs.put_reply.Tie as tie

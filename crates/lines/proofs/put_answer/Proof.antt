@@ -1,6 +1,6 @@
 -- Each answer has its line.
 use native.Mathlib.Omega.{arith}
-use Rattle.lines.specs.Text.{bytes}
+use Rattle.text.specs.Text.{bytes}
 use Rattle.lines.proofs.AnswerLaws.{put-line, way-cells}
 use borrow.Author.Needs.{needs}
 use Rattle.lines.proofs.put_answer.Statement.{statement}

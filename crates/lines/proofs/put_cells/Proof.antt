@@ -3,10 +3,11 @@ use mathlib.Core.Path.{_≡_, refl, ap}
 use Prim.Native.Nat.{_-_, _≤_}
 use native.Mathlib.Omega.{arith}
 use lib.ListN.{getD, take}
-use Rattle.lines.specs.Text.{bytes, spaced}
-use Rattle.lines.specs.Put.{Put}
-use Rattle.lines.proofs.PutLaws.{put-nothing, put-as, put-cell}
-use Rattle.lines.proofs.TextLaws.{cell-few, cells-few}
+use Rattle.text.specs.Text.{bytes}
+use Rattle.text.specs.Put.{Put}
+use Rattle.text.proofs.PutLaws.{put-nothing, put-as}
+use Rattle.lines.specs.Lines.{spaced}
+use Rattle.lines.proofs.CellLaws.{cell-few, cells-few, put-cell}
 use Rattle.lines.proofs.put_cells.Statement.{statement}
 use Rattle.lines.proofs.put_cells.Tie as tie
 

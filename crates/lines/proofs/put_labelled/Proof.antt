@@ -1,8 +1,8 @@
 -- The three texts are put one behind the other.
 use native.Mathlib.Omega.{arith}
-use Rattle.lines.specs.Text.{bytes}
-use Rattle.lines.proofs.PutLaws.{put-then}
-use Rattle.lines.proofs.TextLaws.{decimal-few}
+use Rattle.text.specs.Text.{bytes}
+use Rattle.text.proofs.PutLaws.{put-then}
+use Rattle.text.proofs.DecimalLaws.{decimal-few}
 use borrow.Author.Needs.{needs}
 use Rattle.lines.proofs.put_labelled.Statement.{statement}
 use Rattle.lines.proofs.put_labelled.Tie as tie

@@ -1,5 +1,5 @@
 -- The word is `refused `.
-use Rattle.lines.specs.Text.{bytes}
+use Rattle.text.specs.Text.{bytes}
 use borrow.Author.Needs.{needs}
 use Rattle.lines.proofs.put_refusal.Statement.{statement}
 use Rattle.lines.proofs.put_refusal.Tie as tie

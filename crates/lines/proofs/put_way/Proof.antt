@@ -1,8 +1,9 @@
 -- The seven texts are put one behind the other.
 use native.Mathlib.Omega.{arith}
-use Rattle.lines.specs.Text.{bytes}
-use Rattle.lines.proofs.PutLaws.{put-then}
-use Rattle.lines.proofs.TextLaws.{decimal-few, cells-few}
+use Rattle.text.specs.Text.{bytes}
+use Rattle.text.proofs.PutLaws.{put-then}
+use Rattle.text.proofs.DecimalLaws.{decimal-few}
+use Rattle.lines.proofs.CellLaws.{cells-few}
 use borrow.Author.Needs.{needs}
 use Rattle.lines.proofs.put_way.Statement.{statement}
 use Rattle.lines.proofs.put_way.Tie as tie

@@ -1,10 +1,10 @@
 -- `opening::copy_plan` copies the file's first bytes. The loop's invariant: the first i are copied.
-use Rattle.lines.specs.Put.{Put}
+use Rattle.text.specs.Put.{Put}
 use lib.ListN.{length, take}
 use native.Mathlib.Omega.{arith}
 use Prim.Native.Nat.{_-_, _≤_}
 use borrow.Author.Needs.{needs}
-use Rattle.lines.proofs.PutLaws.{put-nothing}
+use Rattle.text.proofs.PutLaws.{put-nothing}
 use Rattle.opening.proofs.BeginLaws.{copied-more, copied-all}
 use Rattle.opening.proofs.copy_plan.Statement.{statement}
 use Rattle.opening.proofs.copy_plan.Tie as tie

@@ -52,7 +52,7 @@ use denote.Exit.{yes}
 use denote.Triple.Clauses.{Lasts, ensured, lasts}
 use Rattle.decide.specs.Decides.{Decides}
 use Rattle.decide.proofs.DecideLaws.{refuted}
-use Rattle.lines.specs.Text.{room}
+use Rattle.lines.specs.Lines.{room}
 use Rattle.tables.specs.declared.Session.{Session}
 use Rattle.tables.specs.Lent.{cells}
 use Rattle.tables.proofs.Session as SS

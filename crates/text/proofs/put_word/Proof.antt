@@ -4,10 +4,10 @@ use Prim.Native.Nat.{_+_, _-_, _≤_}
 use native.Mathlib.Omega.{arith}
 use lib.ListN.{length, take}
 use lib.Seq.{take-all}
-use Rattle.lines.specs.Put.{Put}
-use Rattle.lines.proofs.PutLaws.{put-nothing, put-as, put-next}
-use Rattle.lines.proofs.put_word.Statement.{statement}
-use Rattle.lines.proofs.put_word.Tie as tie
+use Rattle.text.specs.Put.{Put}
+use Rattle.text.proofs.PutLaws.{put-nothing, put-as, put-next}
+use Rattle.text.proofs.put_word.Statement.{statement}
+use Rattle.text.proofs.put_word.Tie as tie
 
 abbrev Inv-loop : tie.InvT-loop
 Inv-loop word text₀ at i₀ text i = (i ≤ length word) × Put text₀ at (take i word) (at + i) text

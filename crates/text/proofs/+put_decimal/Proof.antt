@@ -2,17 +2,17 @@
 use mathlib.Core.Path.{refl, ap, _∙_}
 use native.Mathlib.Omega.{arith}
 use lib.ListN.{length}
-use Rattle.lines.proofs.PutLaws.{put-as, put-last-digit}
-use Rattle.lines.proofs.TextLaws.{decimal-one, decimal-longer}
+use Rattle.text.proofs.PutLaws.{put-as, put-last-digit}
+use Rattle.text.proofs.DecimalLaws.{decimal-one, decimal-longer}
 use Prim.Native.Nat.{ℕ, _<_}
 use borrow.Fn.Kinds.{In}
 use borrow.Fn.PlainCycle.{Measures, is, falls, and}
-use Rattle.lines.proofs.put_decimal.Reads as put-decimal
-use Rattle.lines.proofs.put_decimal.Kinds as put-decimal-kinds
-use Rattle.lines.proofs.+put_decimal.Lts-put_decimal as put-decimal-lts
-use Rattle.lines.proofs.put_byte.Reads as put-byte-reads
-use Rattle.lines.proofs.+put_decimal.{statement}
-use Rattle.lines.proofs.+put_decimal.Tie.{close}
+use Rattle.text.proofs.put_decimal.Reads as put-decimal
+use Rattle.text.proofs.put_decimal.Kinds as put-decimal-kinds
+use Rattle.text.proofs.+put_decimal.Lts-put_decimal as put-decimal-lts
+use Rattle.text.proofs.put_byte.Reads as put-byte-reads
+use Rattle.text.proofs.+put_decimal.{statement}
+use Rattle.text.proofs.+put_decimal.Tie.{close}
 
 abbrev μ-put-decimal : Measures 1 put-decimal-kinds.ps ℕ
 μ-put-decimal κs a = a .0

@@ -1,8 +1,8 @@
 -- The byte is stored at its place.
 use borrow.Author.Needs.{needs}
-use Rattle.lines.proofs.PutLaws.{put-byte}
-use Rattle.lines.proofs.put_byte.Statement.{statement}
-use Rattle.lines.proofs.put_byte.Tie as tie
+use Rattle.text.proofs.PutLaws.{put-byte}
+use Rattle.text.proofs.put_byte.Statement.{statement}
+use Rattle.text.proofs.put_byte.Tie as tie
 
 slice-write-text : tie.Need-slice-write-text
 slice-write-text c = search needs

@@ -1,16 +1,14 @@
 -- Decimal digits: how they are written one by one, and how many there are.
 use mathlib.Core.Path.{_≡_, sym, ap, _∙_}
-use mathlib.Core.List.{List, [], _∷_, _++_, append-assoc, append-nil}
-use Prim.Native.Nat.{ℕ, zero, suc, _+_, _*_, _/_, _%_, _^_, _≤_, _<_}
+use mathlib.Core.List.{List, [], _∷_, _++_}
+use Prim.Native.Nat.{ℕ, zero, suc, _+_, _/_, _%_, _^_, _≤_, _<_}
 use native.Mathlib.Decide.{decLt}
 use native.Mathlib.Nat.{pow-succ', div-add-mod'}
-use native.Mathlib.Numerals.{add-one}
 use native.Mathlib.Omega.{arith}
-use lib.ListN.{length, take, getD, length-append}
-use lib.Seq.{take-suc}
+use lib.ListN.{length, length-append}
 use Rattle.decide.specs.Choose.{choose}
 use Rattle.decide.proofs.ChooseLaws.{choose-yes, choose-no, choose-is}
-use Rattle.lines.specs.Text.{bytes, digits, decimal, spaced}
+use Rattle.text.specs.Text.{digits, decimal}
 
 -- A number below ten is its one digit.
 digits-one : (k n : ℕ) → n < 10 → digits (suc k) n ≡ (48 + n) ∷ []
@@ -33,7 +31,7 @@ digits-enough zero n l = digits-one zero n (omega arith) ∙ sym (digits-one (su
 digits-enough (suc k) n l = ap (λ (x : List ℕ). choose (decLt n 10) ((48 + n) ∷ []) (x ++ ((48 + n % 10) ∷ []))) (digits-enough k (n / 10) (tens-less (suc k) n l))
 
 -- A number below a power of ten has at most so many digits.
-digits-few : (m k n : ℕ) → n < 10 ^ suc k → length (digits m n) ≤ suc k
+pub digits-few : (m k n : ℕ) → n < 10 ^ suc k → length (digits m n) ≤ suc k
 unfolding digits
 digits-few zero k n l = omega arith
 digits-few (suc m) zero n l = omega (arith, ap length (digits-one m n (omega arith)))
@@ -61,28 +59,6 @@ decimal-tens n l f = sym (digits-tens 19 n l ∙ ap (λ (x : List ℕ). x ++ ((4
 pub decimal-longer : (n : ℕ) → 10 ≤ n → n < 18446744073709551616 → length (decimal n) ≡ length (decimal (n / 10)) + 1
 decimal-longer n l f = ap length (sym (decimal-tens n l f)) ∙ length-append (decimal (n / 10)) ((48 + n % 10) ∷ [])
 
--- No number of 16 bits has more than five digits.
-pub cell-few : (n : ℕ) → n < 65536 → length (decimal n) ≤ 5
-cell-few n l = digits-few 20 4 n (omega arith)
-
 -- No number is written with more than twenty.
 pub decimal-few : (n : ℕ) → length (decimal n) ≤ 20
 decimal-few n = digits-given 20 n
-
--- One cell more behind the others.
-spaced-more : (l : List ℕ) (s : ℕ) → spaced l ++ (bytes " " ++ decimal s) ≡ spaced (l ++ (s ∷ []))
-unfolding spaced
-spaced-more [] s = sym (append-nil (bytes " " ++ decimal s))
-spaced-more (x ∷ l) s = append-assoc (bytes " " ++ decimal x) (spaced l) (bytes " " ++ decimal s) ∙ ap (λ (y : List ℕ). bytes " " ++ decimal x ++ y) (spaced-more l s)
-
--- The first i cells of a list, then the next one.
-pub cells-more : (way : List ℕ) (i : ℕ) → i < length way → spaced (take i way) ++ (bytes " " ++ decimal (getD way i 0)) ≡ spaced (take (i + 1) way)
-cells-more way i l = spaced-more (take i way) (getD way i 0) ∙ ap spaced (sym (take-suc way i 0 l) ∙ ap (λ k. take k way) (sym (add-one i)))
-
--- The first k cells, of 16 bits each, take at most six bytes each.
-pub cells-few : (way : List ℕ) (k : ℕ) → ((i : ℕ) → getD way i 0 < 65536) → length (spaced (take k way)) ≤ 6 * k
-unfolding spaced bytes
-cells-few way zero small = omega arith
-cells-few [] (suc k) small = omega arith
-cells-few (s ∷ way) (suc k) small =
-    omega (arith, length-append (bytes " " ++ decimal s) (spaced (take k way)), cell-few s (small 0), cells-few way k (λ i. small (suc i)))
