@@ -44,15 +44,11 @@ pub fn set_entries(asked: &mut Asked, cell: usize) {
     set(asked, |side| &mut side.tables.list[cell]);
 }
 
-/// The nine fields of the record.
+/// The fields of the record in their order. The edges are those of 64 bits, which a narrower field cuts to its own.
 pub fn set_record(asked: &mut Asked) {
-    set(asked, |side| &mut side.session.width);
-    set(asked, |side| &mut side.session.height);
-    set(asked, |side| &mut side.session.hunter);
-    set(asked, |side| &mut side.session.target);
-    set(asked, |side| &mut side.session.origin);
-    set(asked, |side| &mut side.session.goal);
-    set(asked, |side| &mut side.session.km);
-    set(asked, |side| &mut side.session.count);
-    set(asked, |side| &mut side.session.searches);
+    for (field, old) in asked.base.session.numbers().into_iter().enumerate() {
+        for new in old.edges() {
+            asked.judged(|side| side.session.set(field, new));
+        }
+    }
 }

@@ -4,13 +4,15 @@ use crate::bases::draw_base;
 use crate::pair::Pair;
 use compare::calls::{Call, Counts, Player, Side};
 use compare::chance::Chance;
+use compare::model::Session;
 use compare::rounds::draw_cost;
 use compare::spoil::flip;
 
 /// How many bytes a table has; table 8 is the record.
 fn bytes_of(side: &Side, table: usize) -> usize {
     let cells = side.cells() as usize;
-    [4 * cells, 4 * cells, 4 * cells, cells, 4 * cells, 4 * cells, 2 * cells, 2 * cells, 64][table]
+    let record = Session::BYTES.iter().sum();
+    [4 * cells, 4 * cells, 4 * cells, cells, 4 * cells, 4 * cells, 2 * cells, 2 * cells, record][table]
 }
 
 /// Each byte of each table and of the record flipped in three ways, and then a change, a search or a placing:

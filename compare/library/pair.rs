@@ -4,26 +4,26 @@ use crate::rongdhesi::{self, lent, Session as Crossing};
 use compare::calls::{Call, Counts, Player, Side};
 use compare::model::{is_sound, Answer, Session, Tables, ABSENT};
 
-/// A record of the model as the C interface has it, or the other way round: the same nine fields.
-macro_rules! crossed {
-    ($record:ident, $s:expr) => {
-        $record {
-            width: $s.width,
-            height: $s.height,
-            hunter: $s.hunter,
-            target: $s.target,
-            origin: $s.origin,
-            goal: $s.goal,
-            km: $s.km,
-            count: $s.count,
-            searches: $s.searches,
+/// Makes the ways of a record over to the C interface and back: each field goes to the one of its name.
+macro_rules! crossings {
+    ($($field:ident: $type:ty,)*) => {
+        /// A record of the model as the C interface has it.
+        fn crossed(s: Session) -> Crossing {
+            Crossing { $($field: s.$field),* }
+        }
+
+        /// A record of the C interface as the model has it.
+        fn brought_back(s: Crossing) -> Session {
+            Session { $($field: s.$field),* }
         }
     };
 }
 
+compare::fields!(crossings);
+
 /// Makes the call through the C interface. Gives the five numbers of the answer.
 fn by_library(side: &mut Side, call: Call) -> [u64; 5] {
-    let session = crossed!(Crossing, side.session);
+    let session = crossed(side.session);
     let t = &mut side.tables;
     let reply = match call {
         Call::Open { width, height, hunter, target } => {
@@ -36,7 +36,7 @@ fn by_library(side: &mut Side, call: Call) -> [u64; 5] {
         }
         Call::Search => rongdhesi::search(session, &t.plan, lent!(t), &mut side.way),
     };
-    side.session = crossed!(Session, reply.session);
+    side.session = brought_back(reply.session);
     [reply.kind, reply.refusal, reply.cost, reply.steps, reply.cells]
 }
 

@@ -56,8 +56,8 @@ pub fn sound_tables(chance: &mut Chance, width: u64, height: u64) -> (Session, T
         origin: chance.draw(cells as u64),
         goal: chance.draw(cells as u64),
         km: draw_up_to(chance, 126 * searches) as u32,
-        count: 0,
         searches: searches as u32,
+        ..Session::default()
     };
     // The placed cells are often those of the last search, so that nothing is taken over.
     if chance.draw(2) == 0 {

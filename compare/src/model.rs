@@ -29,19 +29,55 @@ pub fn opposite(direction: usize) -> usize {
     (direction + 2) % 4
 }
 
-/// The session record. The origin and the goal are the hunter and the target of the last search.
-#[derive(Clone, Copy, Debug, Default, PartialEq, Eq)]
-pub struct Session {
-    pub width: u64,
-    pub height: u64,
-    pub hunter: u64,
-    pub target: u64,
-    pub origin: u64,
-    pub goal: u64,
-    pub km: u32,
-    pub count: u64,
-    pub searches: u32,
+/// The fields of the session record in their order, new ones at the end, each with its type: `fields!(m)` hands them to
+/// the macro `m`. Whatever goes over the whole record goes by this list, so that a new field is a line here and one in the binding.
+#[macro_export]
+macro_rules! fields {
+    ($taker:ident) => {
+        $taker! {
+            width: u64,
+            height: u64,
+            hunter: u64,
+            target: u64,
+            origin: u64,
+            goal: u64,
+            km: u32,
+            count: u64,
+            searches: u32,
+        }
+    };
 }
+
+/// Makes the record of the fields, and what goes over them by their place in the order.
+macro_rules! record {
+    ($($field:ident: $type:ty,)*) => {
+        /// The session record. The origin and the goal are the hunter and the target of the last search.
+        #[derive(Clone, Copy, Debug, Default, PartialEq, Eq)]
+        pub struct Session {
+            $(pub $field: $type,)*
+        }
+
+        impl Session {
+            /// How many bytes each field has.
+            pub const BYTES: &'static [usize] = &[$(size_of::<$type>()),*];
+
+            /// The record's numbers in the order of its fields.
+            pub fn numbers(&self) -> [u64; Session::BYTES.len()] {
+                [$(self.$field as u64),*]
+            }
+
+            /// Gives one field another number, cut to the width of the field.
+            pub fn set(&mut self, field: usize, number: u64) {
+                let mut numbers = self.numbers();
+                numbers[field] = number;
+                let [$($field),*] = numbers;
+                *self = Session { $($field: $field as $type),* };
+            }
+        }
+    };
+}
+
+fields!(record);
 
 /// The tables: the plan has four bytes for each cell, each other table one entry.
 #[derive(Clone, Debug, Default, PartialEq, Eq)]

@@ -4,7 +4,7 @@ use crate::calls::{Call, Player, Side};
 use crate::chance::Chance;
 use crate::made::draw_plan;
 use crate::model::{neighbour, Answer, Session, INFINITE};
-use crate::spoil::{cut, cut_one, flip, RECORD};
+use crate::spoil::{cut, cut_one, flip_field};
 
 /// Draws a number that is far too great.
 fn draw_great(chance: &mut Chance) -> u64 {
@@ -58,7 +58,8 @@ fn spoil(chance: &mut Chance, player: &mut impl Player) {
         _ => player.side().tables.g[at].wrapping_add(1),
     };
     let byte = 4 * at + chance.draw(4) as usize;
-    let (small, field) = (chance.draw(256) as u8, chance.draw(13));
+    let fields = Session::BYTES.len();
+    let (small, field) = (chance.draw(256) as u8, chance.draw(fields as u64 + 4) as usize);
     player.everywhere(|side| match table {
         0 => side.tables.plan[byte] = small,
         1 => side.tables.g[at] = number,
@@ -66,13 +67,13 @@ fn spoil(chance: &mut Chance, player: &mut impl Player) {
         3 => side.tables.parent[at] = small % 6,
         4 => side.tables.k1[at] = number,
         5 => side.tables.k2[at] = number,
-        _ => match field {
+        _ => match field.checked_sub(fields) {
+            None => flip_field(&mut side.session, field, 1 + small as u64 % 7),
             // The first number that is no cell.
-            9 => side.session.hunter = cells,
-            10 => side.session.target = cells,
-            11 => side.session.origin = cells,
-            12 => side.session.goal = cells,
-            field => flip(side, 8, RECORD[field as usize].0, 1 + small % 7),
+            Some(0) => side.session.hunter = cells,
+            Some(1) => side.session.target = cells,
+            Some(2) => side.session.origin = cells,
+            Some(_) => side.session.goal = cells,
         },
     });
 }

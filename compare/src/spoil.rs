@@ -1,11 +1,7 @@
 //! Records and tables spoiled: a byte flipped, or a table too short or too long.
 
 use crate::calls::Side;
-use crate::model::Tables;
-
-/// Where each field of the record begins among its bytes, and its length.
-pub const RECORD: [(usize, usize); 9] =
-    [(0, 8), (8, 8), (16, 8), (24, 8), (32, 8), (40, 8), (48, 4), (52, 8), (60, 4)];
+use crate::model::{Session, Tables};
 
 /// Flips bits of one byte of a table or of the record.
 pub fn flip(side: &mut Side, table: usize, byte: usize, bits: u8) {
@@ -22,22 +18,16 @@ pub fn flip(side: &mut Side, table: usize, byte: usize, bits: u8) {
         6 => half(&mut t.place[byte / 2]),
         7 => half(&mut t.list[byte / 2]),
         _ => {
-            let field = RECORD.iter().position(|&(from, length)| byte < from + length).expect("a byte of the record");
-            let long = (bits as u64) << (8 * (byte - RECORD[field].0));
-            let s = &mut side.session;
-            match field {
-                0 => s.width ^= long,
-                1 => s.height ^= long,
-                2 => s.hunter ^= long,
-                3 => s.target ^= long,
-                4 => s.origin ^= long,
-                5 => s.goal ^= long,
-                6 => s.km ^= long as u32,
-                7 => s.count ^= long,
-                _ => s.searches ^= long as u32,
-            }
+            let mut places = Session::BYTES.iter().enumerate().flat_map(|(field, &bytes)| (0..bytes).map(move |at| (field, at)));
+            let (field, at) = places.nth(byte).expect("a byte of the record");
+            flip_field(&mut side.session, field, (bits as u64) << (8 * at));
         }
     }
+}
+
+/// Flips bits of one field of the record.
+pub fn flip_field(session: &mut Session, field: usize, bits: u64) {
+    session.set(field, session.numbers()[field] ^ bits);
 }
 
 /// Makes one of the eight tables one entry longer or shorter.

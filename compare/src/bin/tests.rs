@@ -78,6 +78,7 @@ fn main() {
     runner_refusals(&mut count);
     edges(&mut count);
     fresh_tables(&mut count);
+    record_by_numbers(&mut count);
     open_refusals(&mut count);
     place_refusals(&mut count);
     change_refusals(&mut count);
@@ -282,17 +283,7 @@ fn edges(count: &mut Count) {
 /// What open leaves in the tables.
 fn fresh_tables(count: &mut Count) {
     let (session, tables) = opened(3, 2, 4, 2, even_plan(3, 2, 3));
-    let wanted = Session {
-        width: 3,
-        height: 2,
-        hunter: 4,
-        target: 2,
-        origin: 4,
-        goal: 2,
-        km: 0,
-        count: 1,
-        searches: 0,
-    };
+    let wanted = Session { width: 3, height: 2, hunter: 4, target: 2, origin: 4, goal: 2, count: 1, ..Session::default() };
     count.same("record", session, wanted);
     count.same("g", tables.g, vec![INFINITE; 6]);
     count.same("rhs", tables.rhs, vec![INFINITE, INFINITE, INFINITE, INFINITE, 0, INFINITE]);
@@ -301,6 +292,18 @@ fn fresh_tables(count: &mut Count) {
     count.same("k2", tables.k2, vec![0; 6]);
     count.same("place", tables.place, vec![ABSENT, ABSENT, ABSENT, ABSENT, 0, ABSENT]);
     count.same("list", tables.list, vec![4, ABSENT, ABSENT, ABSENT, ABSENT, ABSENT]);
+}
+
+/// A field of the record set by its place changes that number alone, and is cut to its width.
+fn record_by_numbers(count: &mut Count) {
+    let (session, _) = opened(3, 2, 4, 2, even_plan(3, 2, 3));
+    for (field, &bytes) in Session::BYTES.iter().enumerate() {
+        let mut changed = session;
+        changed.set(field, u64::MAX);
+        let mut wanted = session.numbers();
+        wanted[field] = u64::MAX >> (64 - 8 * bytes);
+        count.same("one field set", changed.numbers(), wanted);
+    }
 }
 
 /// The tables with one of them shortened or lengthened by one entry, by its number.
@@ -564,7 +567,7 @@ fn steps_in_detail(count: &mut Count) {
     count.same("second", answer, Answer::None { steps: 0 });
 
     // All three kinds on one cell, from made tables: 2 by 1, g of both cells too low, stored keys stale.
-    let mut session = Session { width: 2, height: 1, hunter: 0, target: 1, origin: 0, goal: 1, km: 100, count: 2, searches: 1 };
+    let mut session = Session { width: 2, height: 1, target: 1, goal: 1, km: 100, count: 2, searches: 1, ..Session::default() };
     let mut tables = Tables::filled(even_plan(2, 1, 10), 2, 0);
     tables.g = vec![3, 2];
     tables.rhs = vec![5, 13];
