@@ -8,13 +8,13 @@ use lib.ListN.{getD, set}
 use lib.Seq.{set-getD}
 use Rattle.method.specs.Sound as method-sound
 use Rattle.method.proofs.Theorems as method-theorems
-use Rattle.plan.specs.Costs.{planOf, Obeys}
-use Rattle.plan.specs.Grid.{graphOf}
+use Rattle.plan.specs.Costs.{Obeys}
 use Rattle.plan.proofs.CellLaws.{enters}
-use Rattle.plan.proofs.ChangeLaws.{changed-obeys, changed-altered}
+use Rattle.plan.proofs.ChangeLaws.{changed-obeys}
 use Rattle.tables.specs.declared.Session.{Session}
-use Rattle.tables.specs.Lent.{Tables, cells, floor, graph, session, core, Fits}
+use Rattle.tables.specs.Lent.{Tables, frame, cells, graphIn, floor, graph, session, core, Fits}
 use Rattle.tables.specs.Sound.{Sound}
+use Rattle.tables.proofs.FrameLaws.{altered-in}
 use Rattle.change.specs.Effects.{Touches}
 use Rattle.session.specs.declared.Answer.the-variants.{Done}
 use Rattle.session.specs.declared.Reply.{Reply}
@@ -105,12 +105,12 @@ changed-sound {s} {t} {t′} {u} {d} {cost} {r} P e =
     at : {n : ℕ} → Workable s t u d cost → WorkedIn s t u d cost n t′ → Sound (counted s n) t′
     at w p = record {
       plan =
-          subst (λ x. Obeys (planOf (s .width) (s .height) x)) (sym (p .plan))
+          subst (λ x. Obeys (floor s x)) (sym (p .plan))
           (changed-obeys (floor s (t .plan)) (w .sound .plan) u d cost (w .cell-in) (w .direction) (w .stays-in) (w .byte));
       numbers =
-          subst (λ x. method-sound.Sound (graphOf (planOf (s .width) (s .height) x)) (session s) (core t′)) (sym (p .plan))
+          subst (λ x. method-sound.Sound (graphIn (frame s) x) (session s) (core t′)) (sym (p .plan))
           (subst (λ T. method-sound.Sound (graph s (withPlan t (replanned s t u d cost))) (session s) T) (sym (p .is))
-          (method-theorems.move-changed-sound (changed-altered (floor s (t .plan)) (w .sound .plan) u d cost (w .cell-in) (w .direction) (w .stays-in) (w .byte)) (w .sound .numbers)
+          (method-theorems.move-changed-sound (altered-in (frame s) (t .plan) (w .sound .plan) u d cost (w .cell-in) (w .direction) (w .stays-in) (w .byte)) (w .sound .numbers)
           (enters (w .sound .plan .size .wide) (w .stays-in) .inside)));
       heap = p .heap;
     }

@@ -8,10 +8,9 @@ use Rattle.method.specs.Session as calls
 use Rattle.queue.specs.Queue.{Heap, EntryKept}
 use Rattle.plan.specs.Directions.{opposite}
 use Rattle.plan.specs.Cells.{entered}
-use Rattle.plan.specs.Costs.{Plan, byte, withByte}
-use Rattle.plan.specs.Grid.{graphOf}
+use Rattle.plan.specs.Costs.{byte, withByte}
 use Rattle.tables.specs.declared.Session.{Session}
-use Rattle.tables.specs.Lent.{Tables, tables, cells, floor, session, core}
+use Rattle.tables.specs.Lent.{Tables, Frame, tables, frame, framed, cells, floorIn, graphIn, floor, session, core}
 use Rattle.tables.specs.Told.{toldNumber}
 use Rattle.change.specs.Effects.{Touches}
 use Rattle.session.specs.declared.Reply.{Reply}
@@ -20,15 +19,18 @@ use Rattle.change.specs.Refusals.{ChangeRules}
 
 -- The record with another count of the queue.
 abbrev pub counted : Session → ℕ → Session
-counted s n = record { width = s .width; height = s .height; hunter = s .hunter; target = s .target; origin = s .origin; goal = s .goal; km = s .km; count = n; searches = s .searches }
+counted s n = framed (frame s) (s .hunter) (s .target) (s .origin) (s .goal) (s .km) n (s .searches)
 
 -- The tables with another plan, all else as it was.
 abbrev pub withPlan : Tables → List ℕ → Tables
 withPlan t plan = tables plan (t .g) (t .rhs) (t .parent) (t .k1) (t .k2) (t .place) (t .list)
 
--- The plan with the new cost, as bytes.
+-- The plan's bytes with the new cost.
+abbrev pub replannedIn : Frame → List ℕ → ℕ → ℕ → ℕ → List ℕ
+replannedIn f plan u d cost = withByte (floorIn f plan) u d cost .bytes
+
 abbrev pub replanned : Session → Tables → ℕ → ℕ → ℕ → List ℕ
-replanned s t u d cost = withByte (floor s (t .plan)) u d cost .bytes
+replanned s t u d cost = replannedIn (frame s) (t .plan) u d cost
 
 -- The cell that the move enters, the move's parent code there, and its byte before the change.
 abbrev pub enteredCell : Session → ℕ → ℕ → ℕ
@@ -41,13 +43,13 @@ abbrev pub oldCost : Session → Tables → ℕ → ℕ → ℕ
 oldCost s t u d = byte (floor s (t .plan)) u d
 
 -- What the method makes of its tables T where the move of a plan from cell u in direction d gets this cost: on the plan as it then is.
-abbrev pub changedOver : Plan → calls.Session → method.Tables → ℕ → ℕ → ℕ → method.Tables
-changedOver p σ T u d cost =
-    calls.moveChanged (calls.huntOf (graphOf (withByte p u d cost)) σ) T (entered (p .width) u d) (backCode d) u (byte p u d) cost
+abbrev pub changedOver : Frame → List ℕ → calls.Session → method.Tables → ℕ → ℕ → ℕ → method.Tables
+changedOver f plan σ T u d cost =
+    calls.moveChanged (calls.huntOf (graphIn f (replannedIn f plan u d cost)) σ) T (entered (f .width) u d) (backCode d) u (byte (floorIn f plan) u d) cost
 
 -- So of a session's own tables.
 abbrev pub methodChange : Session → Tables → ℕ → ℕ → ℕ → method.Tables
-methodChange s t u d cost = changedOver (floor s (t .plan)) (session s) (core t) u d cost
+methodChange s t u d cost = changedOver (frame s) (t .plan) (session s) (core t) u d cost
 
 -- The change is worked in: the byte is set, the tables t became the method's, with a true heap of `count` cells. Where the cell entered is not written, only the byte changed;
 -- where its entry is set right to what it is already, list and places stay.

@@ -12,13 +12,14 @@ use Rattle.method.specs.Numbers.{mostCost}
 use Rattle.method.specs.Graph.{Move, move, Hunt}
 use Rattle.method.specs.Tables as method
 use Rattle.method.specs.Steps.{relaxed, relaxedAll, renewed, renewedAll}
-use Rattle.plan.specs.Grid.{outBy, graphOf}
+use Rattle.plan.specs.Grid.{outBy}
 use Rattle.plan.proofs.CellLaws.{enters}
 use Rattle.plan.proofs.GridLaws.{out-reach}
+use Rattle.tables.specs.Lent.{graphIn}
 use Rattle.entries.specs.declared.Aim.{Aim}
 use Rattle.entries.specs.declared.Found.{Found}
 use Rattle.entries.specs.declared.Asked.the-variants.{Keeps, Takes}
-use Rattle.entries.specs.Aims.{floor, hunt, Findable}
+use Rattle.entries.specs.Aims.{frameOf, floor, hunt, Findable}
 use Rattle.entries.specs.Became.{foundOf}
 use Rattle.entries.proofs.FoundLaws.{found-small, anew-is}
 use Rattle.choices.specs.Moves.{Enters, Leaving, Relaxing, Relaxes, Renewing, Renews}
@@ -100,13 +101,13 @@ module _ {a : Aim} {plan g parent : List ℕ} {u d : ℕ} (R : Renewing a plan g
     pub child-findable : Findable (a .width) (a .height) plan g s
     child-findable = record { obeys = R .leaving .aimed .obeys; long-g = R .long-g; small-g = R .small-g; inside = enters-by (R .leaving) e .0 .inside }
 
-    pub renews-at : {f : Found} → s ≢ a .hunter → getD parent s 0 ≡ k → foundOf f ≡ method.anew (graphOf (floor a plan)) g s → Renews a plan g parent u d (Takes s f)
+    pub renews-at : {f : Found} → s ≢ a .hunter → getD parent s 0 ≡ k → foundOf f ≡ method.anew (graphIn (frameOf a) plan) g s → Renews a plan g parent u d (Takes s f)
     unfolding renewed
     renews-at n h ef = record {
-      fair = (enters-by (R .leaving) e .0, found-small child-findable ef);
+      fair = (enters-by (R .leaving) e .0, found-small a child-findable ef);
       is = λ T eg q.
           renewed-one (hunt a plan) T e
           ∙ choose-no (ℕ-discrete s (a .hunter)) T _ n
           ∙ choose-yes (ℕ-discrete (getD (T .parent) s 0) k) _ T (ap (λ r. getD r s 0) q ∙ h)
-          ∙ sym (anew-is a plan T s (ef ∙ ap (λ x. method.anew (graphOf (floor a plan)) x s) (sym eg)));
+          ∙ sym (anew-is a plan T s (ef ∙ ap (λ x. method.anew (graphIn (frameOf a) plan) x s) (sym eg)));
     }

@@ -21,13 +21,12 @@ use Rattle.queue.specs.Queue.{LeastOf}
 use Rattle.queue.proofs.MemberLaws.{member-place}
 use Rattle.queue.proofs.OrderLaws.{less-eq, less-ne}
 use Rattle.queue.proofs.QueueLaws.{least-of, least-place}
-use Rattle.plan.specs.Grid.{graphOf}
 use Rattle.plan.proofs.EstimateLaws.{estimate-self}
-use Rattle.plan.proofs.GridLaws.{graph-laws}
-use Rattle.tables.specs.Lent.{tables, core}
+use Rattle.tables.specs.Lent.{tables, graphIn, core}
+use Rattle.tables.proofs.FrameLaws.{graph-in-laws}
 use Rattle.tables.proofs.SoundLaws.{Words}
 use Rattle.entries.specs.declared.Aim.{Aim}
-use Rattle.entries.specs.Aims.{area, floor, hunt}
+use Rattle.entries.specs.Aims.{area, frameOf, hunt}
 use Rattle.choices.specs.Next.{Goal, Choosing, Chosen}
 use Rattle.choices.specs.declared.Choice.the-variants.{Done, On}
 
@@ -48,7 +47,7 @@ goal-finite a y p q g n d plan = d ∙ ap (λ x. ltb (method.keyNumber p q) (met
 
 -- a cell that the method has before another, the queue has before it
 queue-before : (a : Aim) (plan g rhs parent k1 k2 place list : List ℕ) → Words k2
-    → (s u : ℕ) → Before (graphOf (floor a plan)) (core (tables plan g rhs parent k1 k2 place list)) s u → before (a .width) k1 k2 s u ≡ true
+    → (s u : ℕ) → Before (graphIn (frameOf a) plan) (core (tables plan g rhs parent k1 k2 place list)) s u → before (a .width) k1 k2 s u ≡ true
 unfolding before tied
 queue-before a plan g rhs parent k1 k2 place list w s u (inl x) = at (decLt (getD k1 s 0) (getD k1 u 0))
   where
@@ -69,8 +68,8 @@ pub record Leading (a : Aim) (count : ℕ) (g rhs k1 k2 place list : List ℕ) (
   pub least : LeastOf list u
 
 module _ {a : Aim} {count : ℕ} {g rhs k1 k2 place list : List ℕ} (C : Choosing a count g rhs k1 k2 place list) where
-  laws : (plan : List ℕ) → GraphLaws (graphOf (floor a plan))
-  laws plan = graph-laws (floor a plan) (C .size)
+  laws : (plan : List ℕ) → GraphLaws (graphIn (frameOf a) plan)
+  laws plan = graph-in-laws (frameOf a) plan (C .size)
 
   -- an empty queue
   pub chosen-empty : count ≡ 0 → Chosen a g rhs k1 k2 place Done
@@ -82,7 +81,7 @@ module _ {a : Aim} {count u : ℕ} {g rhs k1 k2 place list : List ℕ} (L : Lead
   pub chosen-in : u < area a
   chosen-in = least-place (L .choosing .heap) (L .some) (L .least) .0
 
-  least-here : (plan parent l : List ℕ) → LeastCell (graphOf (floor a plan)) (core (tables plan g rhs parent k1 k2 place l)) (area a) u
+  least-here : (plan parent l : List ℕ) → LeastCell (graphIn (frameOf a) plan) (core (tables plan g rhs parent k1 k2 place l)) (area a) u
   least-here plan parent l =
       least-cell (laws (L .choosing) plan) (core (tables plan g rhs parent k1 k2 place l)) (area a) u chosen-in (least-of (L .choosing .heap) (L .some) (L .least) .member)
       (λ s m q b. true≢false (sym (queue-before a plan g rhs parent k1 k2 place l (L .words) s u b) ∙ least-of (L .choosing .heap) (L .some) (L .least) .first s q))
@@ -114,7 +113,7 @@ module _ {a : Aim} {count u : ℕ} {g rhs k1 k2 place list : List ℕ} (L : Lead
         T : method.Tables
         T = core (tables plan g rhs parent k1 k2 place l)
 
-        same : (v : ℕ) → LeastCell (graphOf (floor a plan)) (core (tables plan g rhs parent k1 k2 place l)) (area a) v → v ≡ u
+        same : (v : ℕ) → LeastCell (graphIn (frameOf a) plan) (core (tables plan g rhs parent k1 k2 place l)) (area a) v → v ≡ u
         same v F =
             let p = least-one (laws (L .choosing) plan) (core (tables plan g rhs parent k1 k2 place l)) (area a) v F in
             let q = least-one (laws (L .choosing) plan) (core (tables plan g rhs parent k1 k2 place l)) (area a) u (least-here plan parent l) in

@@ -56,7 +56,7 @@ pub fn finding_anew(a: Aim, plan: &[u8], g: &[u32], parent: &[u8], u: usize, d: 
     if parent[s] != code {
         return Asked::Keeps;
     }
-    let f = entries::anew(a.width, a.height, plan, g, s);
+    let f = entries::anew(a, plan, g, s);
     Asked::Takes(s, f)
 }
 

@@ -2,7 +2,7 @@
 use mathlib.Core.Path.{_≡_, refl, sym, ap, subst, _∙_}
 use mathlib.Core.Logic.{_≢_, _↔_}
 use mathlib.Core.List.{List, []}
-use Prim.Native.Nat.{ℕ, zero, suc, _*_, _≤_}
+use Prim.Native.Nat.{ℕ, zero, suc, _*_, _≤_, _<_}
 use native.Mathlib.Omega.{arith}
 use native.Mathlib.Decide.{ℕ-discrete}
 use lib.ListN.{length}
@@ -15,13 +15,12 @@ use Rattle.method.specs.Course.{Runs}
 use Rattle.method.specs.Walk.{NoChain, RightAnswer, none-there, way-there}
 use Rattle.method.proofs.Theorems as method
 use Rattle.queue.specs.Queue.{Heap}
-use Rattle.plan.specs.Costs.{planOf, Obeys}
-use Rattle.plan.specs.Grid.{graphOf}
-use Rattle.plan.proofs.GridLaws.{graph-laws}
+use Rattle.plan.specs.Costs.{Obeys}
 use Rattle.tables.specs.declared.Session.{Session}
-use Rattle.tables.specs.Lent.{Tables, cells, floor, graph, session, core}
+use Rattle.tables.specs.Lent.{Tables, Frame, frame, framed, cells, floorIn, graphIn, graph, session, core}
 use Rattle.tables.specs.Sound.{Sound}
 use Rattle.tables.specs.Told.{none-leads as none, refusal, Told, toldRefusal, toldNone, toldWay, toldNumber}
+use Rattle.tables.proofs.FrameLaws.{graph-in-laws}
 use Rattle.tables.proofs.SoundLaws.{sound-fits}
 use Rattle.session.specs.Promises.{Alike}
 use Rattle.session.proofs.RefusalLaws.{refusal-told, place-number, open-number}
@@ -54,7 +53,7 @@ not-refused way S room P = P .done (search-passes way (P .rules) (sound-fits S) 
 
 module _ {s : Session} {t : Tables} (S : Sound s t) where
   laws : GraphLaws (graph s t)
-  laws = graph-laws (floor s (t .plan)) (S .plan .size)
+  laws = graph-in-laws (frame s) (t .plan) (S .plan .size)
 
   -- the answer that the method gives is right
   right : (way : List ℕ) → RightlyAnswered s t way (tells (outcome s t .answer)) (written (cellsOf (outcome s t .answer)) way)
@@ -113,17 +112,15 @@ module _ {s : Session} {t : Tables} (S : Sound s t) where
             subst (λ σ. method-sound.Sound (graph s t) σ (core t′)) (sym (done .record-is))
             (subst (λ T. method-sound.Sound (graph s t) (outcome s t .session) T) (sym (done .tables-are)) (method.search-sound laws (S .numbers)))
 
-        floor-is : floor (r .session) (t′ .plan) ≡ floor s (t .plan)
-        floor-is =
-            ap (λ w. planOf w (r .session .height) (t′ .plan)) (done .wide) ∙ ap (λ h. planOf (s .width) h (t′ .plan)) (done .high) ∙ ap (λ p. planOf (s .width) (s .height) p) (done .plan)
+        -- what holds of the frame and the plan as they came holds of them now
+        still : (P : Frame → List ℕ → Type 0) → P (frame s) (t .plan) → P (frame (r .session)) (t′ .plan)
+        still P h = subst (λ f. P f (t′ .plan)) (sym (done .frame-is)) (subst (P (frame s)) (sym (done .plan)) h)
 
         sound : Sound (r .session) t′
         sound = record {
-          plan = subst (λ p. Obeys p) (sym floor-is) (S .plan);
-          numbers = subst (λ p. method-sound.Sound (graphOf p) (session (r .session)) (core t′)) (sym floor-is) numbers;
-          heap =
-              subst (λ w. Heap w (r .session .height * w) (r .session .count) (t′ .k1) (t′ .k2) (t′ .place) (t′ .list)) (sym (done .wide))
-              (subst (λ h. Heap (s .width) (h * s .width) (r .session .count) (t′ .k1) (t′ .k2) (t′ .place) (t′ .list)) (sym (done .high)) (done .heap));
+          plan = still (λ f plan. Obeys (floorIn f plan)) (S .plan);
+          numbers = still (λ f plan. method-sound.Sound (graphIn f plan) (session (r .session)) (core t′)) numbers;
+          heap = still (λ f _. Heap (f .width) (f .height * f .width) (r .session .count) (t′ .k1) (t′ .k2) (t′ .place) (t′ .list)) (done .heap);
         }
 
 -- ---- 1, both ways
@@ -189,7 +186,7 @@ demand-1-exactly = record {
 -- ---- a search with nothing to write
 
 -- The hunter stays, nothing starts fresh, and no step is taken: no table is written, list and places neither, whether the search answers or is refused.
-pub search-untouched : {s : Session} {t t′ : Tables} (way : List ℕ) {way′ : List ℕ} {r : Outcome} → Searches s t way r t′ way′ → s .hunter ≡ s .origin → s .searches ≢ renewal
+pub search-untouched : {s : Session} {t t′ : Tables} (way : List ℕ) {way′ : List ℕ} {r : Outcome} → Searches s t way r t′ way′ → s .hunter ≡ s .origin → s .searches < renewal
     → stepsOf s t ≡ [] → (r .session .count ≡ s .count) × (t′ ≡ t)
 search-untouched {s} {t} {t′} way {r = r} P h m e = at (ℕ-discrete (P .number) 0)
   where
@@ -199,13 +196,11 @@ search-untouched {s} {t} {t′} way {r = r} P h m e = at (ℕ-discrete (P .numbe
 
 -- ---- two results of one search: equal but for the order inside the heap
 
-same-record : {r r′ : Session} → r .width ≡ r′ .width → r .height ≡ r′ .height → session r ≡ session r′ → r .count ≡ r′ .count → r ≡ r′
-same-record {r} {r′} ew eh es ec =
-    ap (λ w. built w (r .height) (session r) (r .count)) ew ∙ ap (λ h. built (r′ .width) h (session r) (r .count)) eh ∙ ap (λ σ. built (r′ .width) (r′ .height) σ (r .count)) es
-    ∙ ap (λ n. built (r′ .width) (r′ .height) (session r′) n) ec
+same-record : {r r′ : Session} → frame r ≡ frame r′ → session r ≡ session r′ → r .count ≡ r′ .count → r ≡ r′
+same-record {r} {r′} ef es ec = ap (λ f. built f (session r) (r .count)) ef ∙ ap (λ σ. built (frame r′) σ (r .count)) es ∙ ap (built (frame r′) (session r′)) ec
   where
-    built : ℕ → ℕ → calls.Session → ℕ → Session
-    built w h σ n = record { width = w; height = h; hunter = σ .hunter; target = σ .target; origin = σ .origin; goal = σ .goal; km = σ .km; count = n; searches = σ .searches }
+    built : Frame → calls.Session → ℕ → Session
+    built f σ n = framed f (σ .hunter) (σ .target) (σ .origin) (σ .goal) (σ .km) n (σ .searches)
 
 same-outcome : {r r′ : Outcome} → r .session ≡ r′ .session → r .answer ≡ r′ .answer → r ≡ r′
 same-outcome {r} {r′} e f = ap (λ x. made x (r .answer)) e ∙ ap (λ x. made (r′ .session) x) f
@@ -226,7 +221,7 @@ one-search {s} {t} {a} {a′} way {w} {w′} {r} {r′} P Q = at (ℕ-discrete (
         let q = Q .done (sym e ∙ z) in
         let c : core a ≡ core a′ = p .tables-are ∙ sym (q .tables-are) in
         let x = alike a a′ (p .plan ∙ sym (q .plan)) c (p .heap) (q .heap) in
-        let left = same-record (p .wide ∙ sym (q .wide)) (p .high ∙ sym (q .high)) (p .record-is ∙ sym (q .record-is)) (x .0) in
+        let left = same-record (p .frame-is ∙ sym (q .frame-is)) (p .record-is ∙ sym (q .record-is)) (x .0) in
         (same-outcome left (told-alike (r .answer) (r′ .answer) w w′ (p .answer ∙ sym (q .answer))), x .1, p .shown ∙ sym (q .shown))
     at (no n) =
         let p = P .refused n in

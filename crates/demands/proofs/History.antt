@@ -11,10 +11,10 @@ use Rattle.method.specs.Session as calls
 use Rattle.method.specs.Growth.{NumbersFit, FiniteUpTo, RaisesAtMost}
 use Rattle.method.proofs.Growth.{up-to-more}
 use Rattle.method.proofs.Theorems as method
-use Rattle.plan.proofs.GridLaws.{graph-laws}
 use Rattle.tables.specs.declared.Session.{Session}
-use Rattle.tables.specs.Lent.{Tables, cells, floor, graph, session, core}
+use Rattle.tables.specs.Lent.{Tables, frame, cells, graph, session, core}
 use Rattle.tables.specs.Sound.{Sound}
+use Rattle.tables.proofs.FrameLaws.{graph-in-laws}
 use Rattle.session.specs.declared.Answer.the-variants.{Done}
 use Rattle.session.specs.declared.Reply.{Reply}
 use Rattle.session.specs.Promises.{Opens}
@@ -31,7 +31,7 @@ use Rattle.demands.proofs.Demands.{demand-2, demand-3}
 -- ---- sound tables
 
 -- A search keeps sound tables sound, done or refused.
-search-keeps-sound : {s : Session} {t t′ : Tables} {way way′ : List ℕ} {r : Outcome} → Sound s t → Searches s t way r t′ way′ → Sound (r .session) t′
+pub search-keeps-sound : {s : Session} {t t′ : Tables} {way way′ : List ℕ} {r : Outcome} → Sound s t → Searches s t way r t′ way′ → Sound (r .session) t′
 search-keeps-sound {s} {t} {t′} {way} {way′} {r} S P = at (ℕ-discrete (P .number) 0)
   where
     at : Dec (P .number ≡ 0) → Sound (r .session) t′
@@ -76,7 +76,7 @@ promise-of (earlier x) = promise-of x
 
 -- The plan of sound tables is a graph of the method.
 laws-of : {s : Session} {t : Tables} → Sound s t → GraphLaws (graph s t)
-laws-of {s} {t} S = graph-laws (floor s (t .plan)) (S .plan .size)
+laws-of {s} {t} S = graph-in-laws (frame s) (t .plan) (S .plan .size)
 
 -- A search raises the greatest finite number by at most 1,024,250, for any record and tables: those that are not sound are refused and stay.
 pub raises-at-most : {s : Session} {t t′ : Tables} (way : List ℕ) {way′ : List ℕ} {r : Outcome} → Searches s t way r t′ way′ → RaisesAtMost (cells s) (core t) (core t′)

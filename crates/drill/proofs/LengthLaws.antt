@@ -12,9 +12,9 @@ use Rattle.method.specs.Loop.{run}
 use Rattle.method.specs.Session as method-session
 use Rattle.method.proofs.Searching.{of-search}
 use Rattle.plan.specs.Costs.{cells}
-use Rattle.plan.specs.Grid.{graphOf}
 use Rattle.plan.proofs.MoveLaws.{area}
 use Rattle.answer.specs.Answer.{answerOf, cellsOf}
+use Rattle.standing.specs.Standing.{Standing, floorAt, graphAt, searchAt}
 use Rattle.drill_file.specs.declared.Action.{Action}
 use Rattle.drill_file.specs.declared.Action.the-variants.{Change, Hunter, Target, Search, Bad}
 use Rattle.drill_file.specs.File.{trailerOf, actionsFrom, actionsOf}
@@ -22,7 +22,7 @@ use Rattle.text.specs.Text.{bytes, decimal}
 use Rattle.text.proofs.DecimalLaws.{decimal-few}
 use Rattle.lines.specs.Lines.{spaced, line, refusedLine}
 use Rattle.drill.specs.Numbers.{moveNumber}
-use Rattle.drill.specs.Play.{Standing, Turn, turn, played}
+use Rattle.drill.specs.Play.{Turn, turn, played}
 use Rattle.drill.specs.Output.{fileNumber, begun, output}
 use Rattle.drill.specs.Promises.{NextPiece}
 use Rattle.drill.proofs.NumberLaws.{formed, file-formed}
@@ -69,17 +69,17 @@ line-few method-session.cut-off = simp length-append (omega (arith, decimal-few 
 
 -- An action prints a line of so many bytes at most and keeps the size of the plan.
 Short : ℕ → Turn → Type 0
-Short n t = (length (t .line) ≤ 74 + 21 * n) × (cells (t .after .plan) ≡ n)
+Short n t = (length (t .line) ≤ 74 + 21 * n) × (cells (floorAt (t .after)) ≡ n)
 
-turn-few : (S : Standing) (a : Action) → Short (cells (S .plan)) (turn S a)
+turn-few : (S : Standing) (a : Action) → Short (cells (floorAt S)) (turn S a)
 unfolding turn Short
-turn-few S (Change u d cost) = choose-is (Short (cells (S .plan))) _ (λ _. (omega arith, refl)) (λ _. (omega (arith, refusal-few (moveNumber (S .plan) u d cost)), refl))
-turn-few S (Hunter s) = choose-is (Short (cells (S .plan))) _ (λ _. (omega arith, refl)) (λ _. (omega (arith, refusal-few 3), refl))
-turn-few S (Target s) = choose-is (Short (cells (S .plan))) _ (λ _. (omega arith, refl)) (λ _. (omega (arith, refusal-few 3), refl))
-turn-few S Search = (omega (arith, line-few (method-session.search (graphOf (S .plan)) (S .session) (S .tables) .answer), cells-few (graphOf (S .plan)) (S .session) (S .tables)), refl)
+turn-few S (Change u d cost) = choose-is (Short (cells (floorAt S))) _ (λ _. (omega arith, refl)) (λ _. (omega (arith, refusal-few (moveNumber (floorAt S) u d cost)), refl))
+turn-few S (Hunter s) = choose-is (Short (cells (floorAt S))) _ (λ _. (omega arith, refl)) (λ _. (omega (arith, refusal-few 3), refl))
+turn-few S (Target s) = choose-is (Short (cells (floorAt S))) _ (λ _. (omega arith, refl)) (λ _. (omega (arith, refusal-few 3), refl))
+turn-few S Search = (omega (arith, line-few (searchAt S .answer), cells-few (graphAt S) (S .session) (S .tables)), refl)
 turn-few S Bad = (omega arith, refl)
 
-played-few : (l : List Action) (S : Standing) (n : ℕ) → cells (S .plan) ≡ n → length (played S l) ≤ length l * (74 + 21 * n)
+played-few : (l : List Action) (S : Standing) (n : ℕ) → cells (floorAt S) ≡ n → length (played S l) ≤ length l * (74 + 21 * n)
 unfolding played Short
 played-few [] S n e = omega arith
 played-few (a ∷ l) S n e =
@@ -100,8 +100,8 @@ output-few file = choose-is (λ (l : List ℕ). length l < 2 ^ 32) _ (λ z. of-p
     of-played z =
         let F = formed file (file-formed file z) in
         let few : length (actionsOf file) ≤ 13104 = omega (arith, actions-count file (trailerOf file .offset) (trailerOf file .actions), F .whole, F .short) in
-        let short : 74 + 21 * cells (begun file .plan) ≤ 86090 = omega (arith, area (F .size)) in
-        omega (arith, played-few (actionsOf file) (begun file) (cells (begun file .plan)) refl, mul-le-mul few short)
+        let short : 74 + 21 * cells (floorAt (begun file)) ≤ 86090 = omega (arith, area (F .size)) in
+        omega (arith, played-few (actionsOf file) (begun file) (cells (floorAt (begun file))) refl, mul-le-mul few short)
 
 -- So the bytes can be counted to the end of each piece.
 pub piece-counted : {file : List ℕ} {printed : ℕ} {piece : List ℕ} → NextPiece file printed piece → printed + length piece < 2 ^ 32

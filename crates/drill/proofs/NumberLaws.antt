@@ -11,16 +11,15 @@ use Rattle.decide.proofs.ChooseLaws.{choose-yes, choose-no}
 use Rattle.decide.specs.Ruled.{Ruled, fails, holds}
 use Rattle.decide.proofs.RuledLaws.{passed-zero, onward}
 use Rattle.plan.specs.Cells.{Size}
-use Rattle.plan.specs.Costs.{planOf}
 use Rattle.tables.specs.declared.Session.{Session}
-use Rattle.tables.specs.Lent.{Tables, cells, floor, Fits}
+use Rattle.tables.specs.Lent.{Tables, frameOfSize, cells, floorIn, floor, Fits}
 use Rattle.entries.specs.Begin.{Openable}
 use Rattle.session.specs.Refusals.{OpenRules}
 use Rattle.change.specs.Refusals.{MoveRules}
 use Rattle.drill_file.specs.File as drill-file
 use Rattle.lines.specs.Lines.{refusedLine}
 use Rattle.drill.specs.Numbers.{openNumber, moveNumber}
-use Rattle.drill.specs.Output.{planIn, fileNumber, output}
+use Rattle.drill.specs.Output.{frameIn, planIn, fileNumber, output}
 
 -- The number of the first rule that fails is the choice of a test of that rule.
 chosen : {P : Type 0} (test : Dec P) {n k x : ℕ} {rest : ℕ → Type 0} → (rest k → k ≡ x) → Ruled P n rest k → k ≡ choose test x n
@@ -34,7 +33,7 @@ move-number s plan = chosen _ (chosen _ (chosen _ passed-zero))
 
 -- The number of open, where the size and the lengths are right.
 pub open-number : {width height hunter target : ℕ} {t : Tables} {k : ℕ} → Size width height → Fits (height * width) t
-    → OpenRules width height hunter target t k → k ≡ openNumber (planOf width height (t .plan)) hunter target
+    → OpenRules width height hunter target t k → k ≡ openNumber (floorIn (frameOfSize width height) (t .plan)) hunter target
 unfolding openNumber
 open-number z f r = chosen _ (chosen _ (chosen _ passed-zero)) (onward f (onward z r))
 
@@ -46,7 +45,7 @@ granted (no a) l e = absurd (omega arith)
 
 -- Where it is 0, a fresh start can be made.
 pub number-opens : {width height hunter target : ℕ} {t : Tables} → Size width height → Fits (height * width) t
-    → openNumber (planOf width height (t .plan)) hunter target ≡ 0 → Openable width height hunter target t
+    → openNumber (floorIn (frameOfSize width height) (t .plan)) hunter target ≡ 0 → Openable (frameOfSize width height) hunter target t
 unfolding openNumber
 number-opens z f e =
     let a = granted _ (omega arith) e in
@@ -75,7 +74,7 @@ unfolding drill-file.cellsIn drill-file.cellsTold
 cells-formed file e = let F = formed file e in choose-yes _ _ _ (F .long) ∙ choose-yes _ _ _ (F .size)
 
 -- The number of a file of right form is open's.
-pub file-number : (file : List ℕ) → drill-file.formNumber file ≡ 0 → fileNumber file ≡ openNumber (planIn file) (drill-file.trailerOf file .hunter) (drill-file.trailerOf file .target)
+pub file-number : (file : List ℕ) → drill-file.formNumber file ≡ 0 → fileNumber file ≡ openNumber (floorIn (frameIn file) (planIn file)) (drill-file.trailerOf file .hunter) (drill-file.trailerOf file .target)
 unfolding fileNumber
 file-number file e = choose-yes (ℕ-discrete (drill-file.formNumber file) 0) _ _ e
 

@@ -15,9 +15,10 @@ use Rattle.drill_file.specs.File.{actionsFrom, actionsOf}
 use Rattle.text.specs.Put.{Put}
 use Rattle.lines.specs.Lines.{refusedLine, room}
 use Rattle.drill.specs.declared.Played.{Played}
-use Rattle.drill.specs.Play.{Standing, played, leftBy}
+use Rattle.standing.specs.Standing.{Standing, stands}
+use Rattle.drill.specs.Play.{played, leftBy}
 use Rattle.drill.specs.Output.{fileNumber, begun, output}
-use Rattle.drill.specs.Promises.{stands, Playing, Plays, Begins, Unprinted, NextPiece}
+use Rattle.drill.specs.Promises.{Playing, Plays, Begins, Unprinted, NextPiece}
 use Rattle.drill.proofs.NumberLaws.{formed, file-formed, refused-prints}
 use Rattle.drill.proofs.PlayLaws.{actions-more, played-more}
 
@@ -76,7 +77,7 @@ module _ {file : List ℕ} {s : Session} {t : Tables} {way : List ℕ} {at left 
 
   -- The size stays as it was.
   pub same-cells : cells (r .session) ≡ cells s
-  same-cells = ap (λ y. y * r .session .width) (P .high) ∙ ap (λ y. s .height * y) (P .wide)
+  same-cells = ap (λ f. f .height * f .width) (P .frame-is)
 
   -- The actions left over can be played, and there are fewer.
   pub rest-playing : length way′ ≡ length way → Playing file s t way at left → Playing file (r .session) t′ way′ (r .at) (r .left)

@@ -15,10 +15,8 @@ use Rattle.decide.specs.Choose.{choose}
 use Rattle.decide.specs.Decides.{Decides}
 use Rattle.decide.proofs.ChooseLaws.{choose-yes, choose-no}
 use Rattle.decide.proofs.DecideLaws.{decides-le}
-use Rattle.plan.specs.Costs.{planOf}
-use Rattle.plan.specs.Costs as costs
 use Rattle.tables.specs.declared.Session.{Session}
-use Rattle.tables.specs.Lent.{Tables, cells, floor, session, core}
+use Rattle.tables.specs.Lent.{Tables, frame, cells, floor}
 use Rattle.tables.specs.Sound.{Sound}
 use Rattle.tables.specs.Told.{Told}
 use Rattle.tables.proofs.SoundLaws.{sound-fits}
@@ -26,9 +24,9 @@ use Rattle.session.specs.declared.Answer.{Answer}
 use Rattle.session.specs.declared.Reply.{Reply}
 use Rattle.session.specs.Promises.{hunterAt, targetAt, Places}
 use Rattle.session.proofs.RefusalLaws.{answered, place-granted, sound-rules}
-use Rattle.session.proofs.Theorems.{place-answer, hunter-placed-sound, target-placed-sound}
+use Rattle.session.proofs.Theorems.{place-answer}
 use Rattle.change.specs.Promise.{Changes}
-use Rattle.change.proofs.Theorems.{change-answer, change-keeps-sound}
+use Rattle.change.proofs.Theorems.{change-answer}
 use Rattle.search.specs.declared.Outcome.{Outcome}
 use Rattle.answer.specs.declared.Answer as search-answer
 use Rattle.answer.specs.Answer.{countOf, answerOf, cellsOf}
@@ -37,6 +35,9 @@ use Rattle.search.specs.Promise.{outcome, written, Searched, Searches}
 use Rattle.search.proofs.SearchLaws.{searched-answer}
 use Rattle.demands.specs.Demands.{RightlyAnswered, caught, none-leads, way-shown}
 use Rattle.demands.proofs.Demands.{demand-2, demand-3}
+use Rattle.standing.specs.Standing.{Standing, stands, searched}
+use Rattle.standing.specs.Leaves.{Leaves}
+use Rattle.standing.proofs.StandingLaws.{hunter-leaves, target-leaves, change-leaves, search-leaves}
 use Rattle.drill_file.specs.declared.Action.{Action}
 use Rattle.drill_file.specs.declared.Action.the-variants.{Change, Hunter, Target, Search, Bad}
 use Rattle.drill_file.specs.File.{actionAt, actionsFrom}
@@ -45,8 +46,8 @@ use Rattle.text.proofs.PutLaws.{put-nothing, put-then, put-as, put-end}
 use Rattle.lines.specs.Lines.{refusedLine, line, room}
 use Rattle.drill.specs.declared.Turned.{Turned}
 use Rattle.drill.specs.Numbers.{moveNumber}
-use Rattle.drill.specs.Play.{Standing, standing, Turn, accepted, refused, turn, played, leftBy, wayLeft}
-use Rattle.drill.specs.Promises.{stands, told, Ready, Turns, Plays}
+use Rattle.drill.specs.Play.{Turn, accepted, refused, turn, played, leftBy, wayLeft}
+use Rattle.drill.specs.Promises.{told, Ready, Turns, Plays}
 use Rattle.drill.proofs.NumberLaws.{move-number}
 
 -- ---- a reply to an action
@@ -54,8 +55,7 @@ use Rattle.drill.proofs.NumberLaws.{move-number}
 -- The reply to an action that writes no cells leaves what the definition says, and its line is the definition's.
 pub record Replied (a : Action) (s : Session) (t : Tables) (r : Reply) (t′ : Tables) : Type 0 where
   pub sound : Sound (r .session) t′
-  pub wide : r .session .width ≡ s .width
-  pub high : r .session .height ≡ s .height
+  pub frame-is : frame (r .session) ≡ frame s
   pub is : turn (stands s t) a ≡ record { after = stands (r .session) t′; shown = []; line = told (r .answer) }
 
 -- The action is played once the line of its reply is put.
@@ -63,8 +63,7 @@ pub turns-of : {a : Action} {s : Session} {t t′ : Tables} {r : Reply} {way tex
     → (x .session ≡ r .session) × Put text used (told (r .answer)) (x .used) text′ → Turns a s t way text used x t′ way text′
 turns-of {a} {s} {t} {t′} {r} {way} {text} {text′} {used} {x} R p = record {
   sound = subst (λ y. Sound y t′) (sym (p .0)) (R .sound);
-  wide = ap (λ y. y .width) (p .0) ∙ R .wide;
-  high = ap (λ y. y .height) (p .0) ∙ R .high;
+  frame-is = ap (λ y. frame y) (p .0) ∙ R .frame-is;
   after = ap (λ y. stands y t′) (p .0) ∙ sym (ap (λ y. y .after) (R .is));
   shown = sym (ap (λ (y : Turn). written (y .shown) way) (R .is));
   line = put-as (sym (ap (λ y. y .line) (R .is))) refl (p .1);
@@ -75,77 +74,50 @@ told-refused : (n : ℕ) → n ≢ 0 → told (answered n) ≡ refusedLine n
 told-refused zero h = absurd (h refl)
 told-refused (suc n) h = refl
 
+-- What a call leaves by its number, and its line: where the definition refuses by the same number, they are the definition's.
+replied : (a : Action) {s : Session} {t t′ : Tables} {number : ℕ} {next : Standing} {r : Reply}
+    → (number ≡ 0 → turn (stands s t) a ≡ accepted next) → (number ≢ 0 → turn (stands s t) a ≡ refused (stands s t) number)
+    → r .answer ≡ answered number → Leaves s t number next (r .session) t′ → Replied a s t r t′
+replied a {s} {t} {t′} {number} {next} {r} done refuses e L = record { sound = L .sound; frame-is = L .frame-is; is = at (ℕ-discrete number 0) }
+  where
+    at : Dec (number ≡ 0) → turn (stands s t) a ≡ record { after = stands (r .session) t′; shown = []; line = told (r .answer) }
+    at (yes z) = done z ∙ ap accepted (sym (L .done z)) ∙ ap (λ y. record { after = stands (r .session) t′; shown = []; line = told y }) (sym (e ∙ ap answered z))
+    at (no n) =
+        refuses n ∙ ap (λ S. refused S number) (sym (L .refused n))
+        ∙ ap (λ y. record { after = stands (r .session) t′; shown = []; line = y }) (sym (ap told e ∙ told-refused number n))
+
 -- A cell that is refused is refused by 3.
 placed-three : {P : Type 0} {k : ℕ} → Ruled P 3 Passed k → k ≢ 0 → (k ≡ 3) × (P → ⊥)
 placed-three (fails a) n = (refl, a)
 placed-three (holds p r) n = absurd (n (passed-zero r))
 
 -- Placing a cell.
-placed-replied : (a : Action) {s placed : Session} {t : Tables} {cell : ℕ} {r : Reply}
-    → turn (stands s t) a ≡ choose (decLt cell (cells s)) (accepted (stands placed t)) (refused (stands s t) 3)
-    → placed .width ≡ s .width → placed .height ≡ s .height → Sound s t → Sound (r .session) t → Places s placed cell r → Replied a s t r t
-placed-replied a {s} {placed} {t} {cell} {r} e w h S S′ P = at (ℕ-discrete (P .number) 0)
-  where
-    at : Dec (P .number ≡ 0) → Replied a s t r t
-    at (yes z) = record {
-      sound = S′;
-      wide = ap (λ y. y .width) (P .done z) ∙ w;
-      high = ap (λ y. y .height) (P .done z) ∙ h;
-      is = e ∙ choose-yes (decLt cell (cells s)) _ _ (place-granted s (P .rules) z .1) ∙ ap (λ y. record { after = stands y t; shown = []; line = [] }) (sym (P .done z))
-          ∙ ap (λ y. record { after = stands (r .session) t; shown = []; line = told y }) (sym (place-answer P ∙ ap answered z));
-    }
-    at (no n) =
-        let q = placed-three (onward (S .plan .size) (P .rules)) n in
-        record {
-          sound = S′;
-          wide = ap (λ y. y .width) (P .refused n);
-          high = ap (λ y. y .height) (P .refused n);
-          is = e ∙ choose-no (decLt cell (cells s)) _ _ (q .1) ∙ ap (λ y. record { after = stands y t; shown = []; line = refusedLine 3 }) (sym (P .refused n))
-              ∙ ap (λ y. record { after = stands (r .session) t; shown = []; line = told y }) (sym (place-answer P ∙ ap answered (q .0)));
-        }
+placed-replied : (a : Action) {s placed : Session} {t : Tables} {cell : ℕ} {next : Standing} {r : Reply}
+    → turn (stands s t) a ≡ choose (decLt cell (cells s)) (accepted next) (refused (stands s t) 3)
+    → Sound s t → (P : Places s placed cell r) → Leaves s t (P .number) next (r .session) t → Replied a s t r t
+placed-replied a {s} {t = t} {cell = cell} e S P =
+    replied a (λ z. e ∙ choose-yes (decLt cell (cells s)) _ _ (place-granted s (P .rules) z .1))
+    (λ n. let q = placed-three (onward (S .plan .size) (P .rules)) n in e ∙ choose-no (decLt cell (cells s)) _ _ (q .1) ∙ ap (refused (stands s t)) (sym (q .0))) (place-answer P)
 
 pub hunter-replied : {s : Session} {t : Tables} {cell : ℕ} {r : Reply} → Sound s t → Places s (hunterAt s cell) cell r → Replied (Hunter cell) s t r t
 unfolding turn
-hunter-replied {cell = cell} S P = placed-replied (Hunter cell) refl refl refl S (hunter-placed-sound S P) P
+hunter-replied {cell = cell} S P = placed-replied (Hunter cell) refl S P (hunter-leaves S P)
 
 pub target-replied : {s : Session} {t : Tables} {cell : ℕ} {r : Reply} → Sound s t → Places s (targetAt s cell) cell r → Replied (Target cell) s t r t
 unfolding turn
-target-replied {cell = cell} S P = placed-replied (Target cell) refl refl refl S (target-placed-sound S P) P
+target-replied {cell = cell} S P = placed-replied (Target cell) refl S P (target-leaves S P)
 
 -- Changing a move.
 pub change-replied : {s : Session} {t t′ : Tables} {u d cost : ℕ} {r : Reply} → Sound s t → Changes s t u d cost r t′ → Replied (Change u d cost) s t r t′
 unfolding turn
-change-replied {s} {t} {t′} {u} {d} {cost} {r} S P = at (ℕ-discrete (P .number) 0)
+change-replied {s} {t} {u = u} {d} {cost} S P =
+    replied (Change u d cost) (λ z. choose-yes test _ _ (sym n-is ∙ z)) (λ n. choose-no test _ _ (λ e. n (n-is ∙ e)) ∙ ap (refused (stands s t)) (sym n-is)) (change-answer P) (change-leaves S P)
   where
     n-is : P .number ≡ moveNumber (floor s (t .plan)) u d cost
     n-is = move-number s (t .plan) (onward S (onward (sound-fits S) (onward (S .plan .size) (P .rules))))
 
     test : Dec (moveNumber (floor s (t .plan)) u d cost ≡ 0)
     test = ℕ-discrete (moveNumber (floor s (t .plan)) u d cost) 0
-
-    at : Dec (P .number ≡ 0) → Replied (Change u d cost) s t r t′
-    at (yes z) =
-        let p = P .done z in
-        record {
-          sound = change-keeps-sound S P;
-          wide = ap (λ y. y .width) (p .0);
-          high = ap (λ y. y .height) (p .0);
-          is = choose-yes test _ _ (sym n-is ∙ z)
-              ∙ ap (λ y. record { after = standing (planOf (s .width) (s .height) (costs.withByte (floor s (t .plan)) u d cost .bytes)) (session s) y; shown = []; line = [] }) (sym (p .1 .is))
-              ∙ ap (λ y. record { after = standing (planOf (s .width) (s .height) y) (session s) (core t′); shown = []; line = [] }) (sym (p .1 .plan))
-              ∙ ap (λ y. record { after = stands y t′; shown = []; line = [] }) (sym (p .0))
-              ∙ ap (λ y. record { after = stands (r .session) t′; shown = []; line = told y }) (sym (change-answer P ∙ ap answered z));
-        }
-    at (no n) =
-        let p = P .refused n in
-        record {
-          sound = change-keeps-sound S P;
-          wide = ap (λ y. y .width) (p .0);
-          high = ap (λ y. y .height) (p .0);
-          is = choose-no test _ _ (λ e. n (n-is ∙ e)) ∙ ap (λ k. record { after = stands s t; shown = []; line = refusedLine k }) (sym n-is)
-              ∙ ap (λ y. record { after = stands s y; shown = []; line = refusedLine (P .number) }) (sym (p .1)) ∙ ap (λ y. record { after = stands y t′; shown = []; line = refusedLine (P .number) }) (sym (p .0))
-              ∙ ap (λ y. record { after = stands (r .session) t′; shown = []; line = y }) (sym (ap told (change-answer P) ∙ told-refused (P .number) n));
-        }
 
 -- ---- a search
 
@@ -171,16 +143,8 @@ module _ {s : Session} {t t′ : Tables} {way way′ : List ℕ} {r : Outcome} (
 
   -- What it leaves, the cells that it writes, and its line, are the definition's.
   pub search-is : turn (stands s t) Search ≡ record { after = stands (r .session) t′; shown = cellsOf (outcome s t .answer); line = line (r .answer) (take (countOf (r .answer)) way′) }
-  unfolding turn
-  search-is =
-      sym (
-      ap (λ w. with-line (standing (planOf w (r .session .height) (t′ .plan)) (session (r .session)) (core t′)) printed) (D .wide)
-      ∙ ap (λ h. with-line (standing (planOf (s .width) h (t′ .plan)) (session (r .session)) (core t′)) printed) (D .high)
-      ∙ ap (λ y. with-line (standing (planOf (s .width) (s .height) y) (session (r .session)) (core t′)) printed) (D .plan)
-      ∙ ap (λ y. with-line (standing (floor s (t .plan)) y (core t′)) printed) (D .record-is)
-      ∙ ap (λ y. with-line (standing (floor s (t .plan)) (outcome s t .session) y) printed) (D .tables-are)
-      ∙ ap (λ y. with-line (standing (floor s (t .plan)) (outcome s t .session) (outcome s t .tables)) y) printed-is
-      )
+  unfolding turn searches
+  search-is = sym (ap (λ y. with-line y printed) (search-leaves S searches .done refl) ∙ ap (with-line (searched (stands s t))) printed-is)
     where
       with-line : Standing → List ℕ → Turn
       with-line S l = record { after = S; shown = cellsOf (outcome s t .answer); line = l }
@@ -197,8 +161,7 @@ module _ {s : Session} {t t′ : Tables} {way way′ : List ℕ} {r : Outcome} (
       → Turns Search s t way text used (record { session = r .session; used = end }) t′ way′ text′
   search-turns p = record {
     sound = demand-3 S way long searches .sound-again;
-    wide = D .wide;
-    high = D .high;
+    frame-is = D .frame-is;
     after = sym (ap (λ (x : Turn). x .after) search-is);
     shown = D .shown ∙ sym (ap (λ (x : Turn). written (x .shown) way) search-is);
     line = put-as (sym (ap (λ (x : Turn). x .line) search-is)) refl p;
@@ -208,7 +171,7 @@ module _ {s : Session} {t t′ : Tables} {way way′ : List ℕ} {r : Outcome} (
 
 pub bad-turns : {s : Session} {t : Tables} {way text : List ℕ} {used : ℕ} → Sound s t → Turns Bad s t way text used (record { session = s; used = used }) t way text
 unfolding turn
-bad-turns S = record { sound = S; wide = refl; high = refl; after = refl; shown = refl; line = put-nothing _ _ }
+bad-turns S = record { sound = S; frame-is = refl; after = refl; shown = refl; line = put-nothing _ _ }
 
 -- ---- the action at a place
 
@@ -252,21 +215,20 @@ pub record Going (file : List ℕ) (s : Session) (t : Tables) (way₀ : List ℕ
   pub all : actions ≡ done + left
   pub place : at ≡ start + 5 * done
   pub sound : Sound now t′
-  pub wide : now .width ≡ s .width
-  pub high : now .height ≡ s .height
+  pub frame-is : frame now ≡ frame s
   pub after : stands now t′ ≡ leftBy (stands s t) (actionsFrom file start done)
   pub shown : way ≡ wayLeft (stands s t) (actionsFrom file start done) way₀
   pub lines : Put text₀ 0 (played (stands s t) (actionsFrom file start done)) used text
 
 pub going-start : {file : List ℕ} {s : Session} {t : Tables} {way : List ℕ} {start actions : ℕ} {text : List ℕ} → Sound s t → Going file s t way start actions text s t way text start actions 0
 unfolding actionsFrom played leftBy wayLeft
-going-start S = record { done = 0; all = omega arith; place = omega arith; sound = S; wide = refl; high = refl; after = refl; shown = refl; lines = put-nothing _ _ }
+going-start S = record { done = 0; all = omega arith; place = omega arith; sound = S; frame-is = refl; after = refl; shown = refl; lines = put-nothing _ _ }
 
 module _ {file : List ℕ} {s : Session} {t : Tables} {way₀ : List ℕ} {start actions : ℕ} {text₀ : List ℕ} {now : Session} {t′ : Tables} {way text : List ℕ} {at left used : ℕ}
     (G : Going file s t way₀ start actions text₀ now t′ way text at left used) where
   -- The size stays as it was.
   pub going-cells : cells now ≡ cells s
-  going-cells = ap (λ h. h * now .width) (G .high) ∙ ap (λ w. s .height * w) (G .wide)
+  going-cells = ap (λ f. f .height * f .width) (G .frame-is)
 
   -- What is used of the text is in it.
   pub going-put : used ≤ length text₀
@@ -285,8 +247,7 @@ module _ {file : List ℕ} {s : Session} {t : Tables} {way₀ : List ℕ} {start
     all = omega (arith, G .all);
     place = omega (arith, G .place);
     sound = T .sound;
-    wide = T .wide ∙ G .wide;
-    high = T .high ∙ G .high;
+    frame-is = T .frame-is ∙ G .frame-is;
     after = T .after ∙ ap (λ (x : Turn). x .after) turn-is ∙ sym (ap (leftBy S) next ∙ left-more S before (a ∷ []));
     shown =
         T .shown ∙ ap (λ (x : Turn). written (x .shown) way) turn-is ∙ ap (written (turn (leftBy S before) a .shown)) (G .shown)
@@ -325,8 +286,7 @@ module _ {file : List ℕ} {s : Session} {t : Tables} {way₀ : List ℕ} {start
     all = G .all;
     place = G .place;
     sound = G .sound;
-    wide = G .wide;
-    high = G .high;
+    frame-is = G .frame-is;
     after = G .after;
     shown = G .shown;
     lines = G .lines;

@@ -13,10 +13,11 @@ use Rattle.search.specs.declared.Outcome.{Outcome}
 use Rattle.answer.specs.Answer.{countOf, cellsOf}
 use Rattle.search.specs.Promise.{outcome, Searches}
 use Rattle.demands.proofs.Demands.{not-refused}
+use Rattle.standing.specs.Standing.{stands}
 use Rattle.drill_file.specs.declared.Action.the-variants.{Change, Hunter, Target, Search}
 use Rattle.lines.specs.Lines.{line}
 use Rattle.drill.specs.Play.{turn}
-use Rattle.drill.specs.Promises.{stands, told}
+use Rattle.drill.specs.Promises.{told}
 use Rattle.drill.proofs.PlayLaws.{hunter-replied, target-replied, change-replied, search-is}
 
 -- The line of an action is that of the public call's own answer, whatever result its statement allows.

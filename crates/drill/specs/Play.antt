@@ -8,28 +8,14 @@ use Rattle.method.specs.Graph.{Hunt}
 use Rattle.method.specs.Steps.{Kind, stepped}
 use Rattle.method.specs.Loop.{Step}
 use Rattle.method.specs.Session as method-session
-use Rattle.plan.specs.Costs.{Plan, cells, withByte}
-use Rattle.plan.specs.Grid.{graphOf}
+use Rattle.plan.specs.Costs.{cells}
 use Rattle.answer.specs.Answer.{answerOf, cellsOf}
-use Rattle.change.specs.Promise.{changedOver}
 use Rattle.search.specs.Promise.{written}
+use Rattle.standing.specs.Standing.{Standing, floorAt, graphAt, changed, hunterAt, targetAt, searchAt, searched}
 use Rattle.drill_file.specs.declared.Action.{Action}
 use Rattle.drill_file.specs.declared.Action.the-variants.{Change, Hunter, Target, Search, Bad}
 use Rattle.lines.specs.Lines.{refusedLine, line}
 use Rattle.drill.specs.Numbers.{moveNumber}
-
--- The plan as it is, and the session with its tables as the method has them.
-pub record Standing : Type 0 where
-  pub plan : Plan
-  pub session : method-session.Session
-  pub tables : method.Tables
-
-abbrev pub standing : Plan → method-session.Session → method.Tables → Standing
-standing p σ T = record { plan = p; session = σ; tables = T }
-
--- A changed move: the byte, and what the method makes of it on the plan as it then is.
-abbrev pub changed : Standing → ℕ → ℕ → ℕ → Standing
-changed S u d cost = standing (withByte (S .plan) u d cost) (S .session) (changedOver (S .plan) (S .session) (S .tables) u d cost)
 
 -- What an action leaves, the cells that it writes into the way list, and the line that it prints, if any.
 pub record Turn : Type 0 where
@@ -45,15 +31,15 @@ abbrev pub refused : Standing → ℕ → Turn
 refused S number = record { after = S; shown = []; line = refusedLine number }
 
 -- A search writes the cells of its answer and prints its line.
-abbrev pub searched : Plan → method-session.Outcome → Turn
-searched p o = record { after = standing p (o .session) (o .tables); shown = cellsOf (o .answer); line = line (answerOf (o .answer)) (cellsOf (o .answer)) }
+abbrev pub answered : Standing → method-session.Answer → Turn
+answered S a = record { after = S; shown = cellsOf a; line = line (answerOf a) (cellsOf a) }
 
 -- One action. A badly formed one is in no file that is played.
 unfoldable pub turn : Standing → Action → Turn
-turn S (Change u d cost) = choose (ℕ-discrete (moveNumber (S .plan) u d cost) 0) (accepted (changed S u d cost)) (refused S (moveNumber (S .plan) u d cost))
-turn S (Hunter s) = choose (decLt s (cells (S .plan))) (accepted (standing (S .plan) (method-session.hunterPlaced (S .session) s) (S .tables))) (refused S 3)
-turn S (Target s) = choose (decLt s (cells (S .plan))) (accepted (standing (S .plan) (method-session.targetPlaced (S .session) s) (S .tables))) (refused S 3)
-turn S Search = searched (S .plan) (method-session.search (graphOf (S .plan)) (S .session) (S .tables))
+turn S (Change u d cost) = choose (ℕ-discrete (moveNumber (floorAt S) u d cost) 0) (accepted (changed S u d cost)) (refused S (moveNumber (floorAt S) u d cost))
+turn S (Hunter s) = choose (decLt s (cells (floorAt S))) (accepted (hunterAt S s)) (refused S 3)
+turn S (Target s) = choose (decLt s (cells (floorAt S))) (accepted (targetAt S s)) (refused S 3)
+turn S Search = answered (searched S) (searchAt S .answer)
 turn S Bad = accepted S
 
 -- What the actions print, in order.
@@ -89,8 +75,8 @@ takenFrom H T (x ∷ l) =
 -- The steps of a search, from the tables taken over.
 abbrev pub takenIn : Standing → List Taken
 takenIn S =
-    takenFrom (method-session.huntOf (graphOf (S .plan)) (method-session.takenOver (graphOf (S .plan)) (S .session) (S .tables) .session))
-    (method-session.takenOver (graphOf (S .plan)) (S .session) (S .tables) .tables) (method-session.search (graphOf (S .plan)) (S .session) (S .tables) .steps)
+    let taken = method-session.takenOver (graphAt S) (S .session) (S .tables) in
+    takenFrom (method-session.huntOf (graphAt S) (taken .session)) (taken .tables) (searchAt S .steps)
 
 -- The steps of each search among the actions.
 unfoldable pub takenBy : Standing → List Action → List (List Taken)

@@ -5,24 +5,21 @@ use mathlib.Core.List.{List, [], _++_}
 use Prim.Native.Nat.{ℕ, _+_, _*_, _≤_, _<_}
 use lib.ListN.{length, drop}
 use Rattle.tables.specs.declared.Session.{Session}
-use Rattle.tables.specs.Lent.{Tables, cells, floor, session, core, Fits}
+use Rattle.tables.specs.Lent.{Tables, frame, cells, Fits}
 use Rattle.tables.specs.Sound.{Sound}
 use Rattle.session.specs.declared.Answer.{Answer}
 use Rattle.session.specs.declared.Answer.the-variants.{Done, Refused}
 use Rattle.session.specs.Promises.{nothing}
 use Rattle.search.specs.Promise.{written}
+use Rattle.standing.specs.Standing.{Standing, stands}
 use Rattle.drill_file.specs.declared.Action.{Action}
 use Rattle.drill_file.specs.File as drill-file
 use Rattle.text.specs.Put.{Put}
 use Rattle.lines.specs.Lines.{refusedLine, room}
 use Rattle.drill.specs.declared.Turned.{Turned}
 use Rattle.drill.specs.declared.Played.{Played}
-use Rattle.drill.specs.Play.{Standing, standing, turn, played, leftBy, wayLeft}
+use Rattle.drill.specs.Play.{turn, played, leftBy, wayLeft}
 use Rattle.drill.specs.Output.{fileNumber, begun, output}
-
--- The standing of a session's record and tables.
-abbrev pub stands : Session → Tables → Standing
-stands s t = standing (floor s (t .plan)) (session s) (core t)
 
 -- The line of a call's answer: a call that is done prints nothing.
 abbrev pub told : Answer → List ℕ
@@ -38,8 +35,7 @@ pub record Ready (s : Session) (t : Tables) (way text : List ℕ) (used : ℕ) :
 -- The action was played: the tables are sound, the standing and the way list are the definition's, and its line was put into the text.
 pub record Turns (a : Action) (s : Session) (t : Tables) (way text : List ℕ) (used : ℕ) (r : Turned) (t′ : Tables) (way′ text′ : List ℕ) : Type 0 where
   pub sound : Sound (r .session) t′
-  pub wide : r .session .width ≡ s .width
-  pub high : r .session .height ≡ s .height
+  pub frame-is : frame (r .session) ≡ frame s
   pub after : stands (r .session) t′ ≡ turn (stands s t) a .after
   pub shown : way′ ≡ written (turn (stands s t) a .shown) way
   pub line : Put text used (turn (stands s t) a .line) (r .used) text′
@@ -57,8 +53,7 @@ pub record Plays (file : List ℕ) (s : Session) (t : Tables) (way : List ℕ) (
   pub all : left ≡ done + r .left
   pub place : r .at ≡ at + 5 * done
   pub sound : Sound (r .session) t′
-  pub wide : r .session .width ≡ s .width
-  pub high : r .session .height ≡ s .height
+  pub frame-is : frame (r .session) ≡ frame s
   pub after : stands (r .session) t′ ≡ leftBy (stands s t) (drill-file.actionsFrom file at done)
   pub shown : way′ ≡ wayLeft (stands s t) (drill-file.actionsFrom file at done) way
   pub lines : Put text 0 (played (stands s t) (drill-file.actionsFrom file at done)) (r .used) text′

@@ -11,15 +11,14 @@ use Rattle.method.specs.Numbers.{infinite, mostEstimate}
 use Rattle.method.specs.Graph.{GraphLaws}
 use Rattle.method.specs.Tables as method
 use Rattle.method.proofs.LeastSums.{anew-least}
-use Rattle.plan.specs.Costs.{Plan, planOf, Obeys}
-use Rattle.plan.specs.Grid.{graphOf}
+use Rattle.plan.specs.Costs.{Obeys}
 use Rattle.plan.specs.declared.Spot.{Spot}
-use Rattle.plan.proofs.GridLaws.{graph-laws}
-use Rattle.tables.specs.Lent.{Tables, tables}
+use Rattle.tables.specs.Lent.{Tables, Frame, tables, floorIn, graphIn}
+use Rattle.tables.proofs.FrameLaws.{graph-in-laws}
 use Rattle.entries.specs.declared.Aim.{Aim}
 use Rattle.entries.specs.declared.Found.{Found}
 use Rattle.entries.specs.declared.Asked.the-variants.{Takes}
-use Rattle.entries.specs.Aims.{area, floor, hunt, mostG, mostRhs, mostKm, Small, Findable, Ready, ReadyAt}
+use Rattle.entries.specs.Aims.{area, frameOf, hunt, mostG, mostRhs, mostKm, Small, Findable, Ready, ReadyAt}
 use Rattle.entries.specs.Became.{Became, Sited, Entering, obeyed, Taking, foundOf}
 
 -- A number set in a table of small numbers.
@@ -35,26 +34,20 @@ pub small-more : (l : List ℕ) {bound more : ℕ} → bound ≤ more → Small 
 small-more l {bound} {more} h S k = ⊎-elim (λ (e : getD l k 0 ≡ infinite). inl e) (λ (x : getD l k 0 ≤ bound). inr (omega arith)) (S k)
 
 -- A sum found anew is infinite or a g and a cost.
-pub anew-small : (p : Plan) → Obeys p → (g : List ℕ) → Small mostG g → (s : ℕ) → (method.anew (graphOf p) g s .sum ≡ infinite) ⊎ (method.anew (graphOf p) g s .sum ≤ mostRhs)
-anew-small p O g S s = at (anew-least (graphOf p) g s .reached)
+pub anew-small : (f : Frame) (plan : List ℕ) → Obeys (floorIn f plan) → (g : List ℕ) → Small mostG g → (s : ℕ) → (method.anew (graphIn f plan) g s .sum ≡ infinite) ⊎ (method.anew (graphIn f plan) g s .sum ≤ mostRhs)
+anew-small f plan O g S s = at (anew-least (graphIn f plan) g s .reached)
   where
-    L : GraphLaws (graphOf p)
-    L = graph-laws p (O .size)
+    L : GraphLaws (graphIn f plan)
+    L = graph-in-laws f plan (O .size)
 
-    r : ℕ
-    r = method.anew (graphOf p) g s .sum
-
-    k : ℕ
-    k = method.anew (graphOf p) g s .code
-
-    by : method.Via (graphOf p) (λ w. getD g w 0) s (method.anew (graphOf p) g s .sum) (method.anew (graphOf p) g s .code) → method.anew (graphOf p) g s .sum < infinite
-        → (method.anew (graphOf p) g s .sum ≡ infinite) ⊎ (method.anew (graphOf p) g s .sum ≤ mostRhs)
+    by : method.Via (graphIn f plan) (λ w. getD g w 0) s (method.anew (graphIn f plan) g s .sum) (method.anew (graphIn f plan) g s .code) → method.anew (graphIn f plan) g s .sum < infinite
+        → (method.anew (graphIn f plan) g s .sum ≡ infinite) ⊎ (method.anew (graphIn f plan) g s .sum ≤ mostRhs)
     by v l =
-        let c = L .cost-le s (method.anew (graphOf p) g s .code) (v .from) (v .cost) (v .comes) in
+        let c = L .cost-le s (method.anew (graphIn f plan) g s .code) (v .from) (v .cost) (v .comes) in
         ⊎-elim (λ (e : getD g (v .from) 0 ≡ infinite). absurd (omega (arith, v .sum))) (λ (h : getD g (v .from) 0 ≤ mostG). inr (omega (arith, v .sum, c))) (S (v .from))
 
-    at : method.Reached (graphOf p) (λ w. getD g w 0) s (method.anew (graphOf p) g s .sum) (method.anew (graphOf p) g s .code)
-        → (method.anew (graphOf p) g s .sum ≡ infinite) ⊎ (method.anew (graphOf p) g s .sum ≤ mostRhs)
+    at : method.Reached (graphIn f plan) (λ w. getD g w 0) s (method.anew (graphIn f plan) g s .sum) (method.anew (graphIn f plan) g s .code)
+        → (method.anew (graphIn f plan) g s .sum ≡ infinite) ⊎ (method.anew (graphIn f plan) g s .sum ≤ mostRhs)
     at (inl e) = inl (e .0)
     at (inr x) = by (x .1) (x .0)
 
@@ -123,12 +116,12 @@ pub became-as : {a : Aim} {count : ℕ} {t : Tables} {m m′ : method.Tables} �
 became-as B e = record { is = B .is ∙ e; heap = B .heap }
 
 -- A cell found anew takes what `anew` answered.
-pub anew-is : (a : Aim) {f : Found} (plan : List ℕ) (T : method.Tables) (cell : ℕ) → foundOf f ≡ method.anew (graphOf (floor a plan)) (T .g) cell
+pub anew-is : (a : Aim) {f : Found} (plan : List ℕ) (T : method.Tables) (cell : ℕ) → foundOf f ≡ method.anew (graphIn (frameOf a) plan) (T .g) cell
     → obeyed (hunt a plan) T (Takes cell f) ≡ method.foundAnew (hunt a plan) T cell
 unfolding method.foundAnew
 anew-is a plan T cell e = ap (λ x. method.setRight (hunt a plan) (method.withRhs T cell (x .sum) (x .code)) cell) e
 
-pub found-small : {width height cell : ℕ} {f : Found} {plan g : List ℕ} → Findable width height plan g cell → foundOf f ≡ method.anew (graphOf (planOf width height plan)) g cell
+pub found-small : (a : Aim) {cell : ℕ} {f : Found} {plan g : List ℕ} → Findable (a .width) (a .height) plan g cell → foundOf f ≡ method.anew (graphIn (frameOf a) plan) g cell
     → (f .rhs ≡ infinite) ⊎ (f .rhs ≤ mostRhs)
-found-small {width} {height} {cell} {plan = plan} {g = g} F e =
-    subst (λ x. (x ≡ infinite) ⊎ (x ≤ mostRhs)) (sym (ap (λ x. x .sum) e)) (anew-small (planOf width height plan) (F .obeys) g (F .small-g) cell)
+found-small a {cell} {plan = plan} {g = g} F e =
+    subst (λ x. (x ≡ infinite) ⊎ (x ≤ mostRhs)) (sym (ap (λ x. x .sum) e)) (anew-small (frameOf a) plan (F .obeys) g (F .small-g) cell)

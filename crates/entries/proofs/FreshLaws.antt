@@ -16,13 +16,12 @@ use Rattle.queue.specs.Queue.{absent, isPlace, members, Heap}
 use Rattle.queue.proofs.MemberLaws.{tally, tally-none, tally-less}
 use Rattle.queue.proofs.PlaceLaws.{counted}
 use Rattle.queue.proofs.QueueLaws.{empty-heap}
-use Rattle.plan.specs.Grid.{graphOf}
 use Rattle.plan.specs.Reached.{At}
 use Rattle.plan.specs.declared.Spot.{Spot}
 use Rattle.plan.proofs.MoveLaws as moves
-use Rattle.tables.specs.Lent.{Tables, tables, core, Fits}
+use Rattle.tables.specs.Lent.{Tables, tables, Fits, graphIn, core}
 use Rattle.entries.specs.declared.Aim.{Aim}
-use Rattle.entries.specs.Aims.{area, floor, hunt, Aimed, Small}
+use Rattle.entries.specs.Aims.{area, frameOf, hunt, Aimed, Small}
 use Rattle.entries.specs.Became.{Became, Entering, Entered}
 use Rattle.entries.proofs.FoundLaws.{entering, ready-set}
 
@@ -161,13 +160,13 @@ module _ {a : Aim} {plan : List ℕ} (A : Aimed a plan) where
     blank-core = rw (B .g-is, B .rhs-is, B .parent-is, B .k1-is, B .k2-is, B .place-is, members-none (area a), set-replicate (area a) (a .hunter) 0) refl
 
     module _ (zero-km : a .km ≡ 0) {count : ℕ} {k1′ k2′ place′ list′ : List ℕ} (E : Entered a (a .hunter) g (set rhs (a .hunter) 0) k1 k2 place list count k1′ k2′ place′ list′) where
-      pub fresh-became : Became a count (tables plan g (set rhs (a .hunter) 0) parent k1′ k2′ place′ list′) (fresh (graphOf (floor a plan)) (a .hunter) (a .target))
+      pub fresh-became : Became a count (tables plan g (set rhs (a .hunter) 0) parent k1′ k2′ place′ list′) (fresh (graphIn (frameOf a) plan) (a .hunter) (a .target))
       unfolding fresh
       fresh-became =
           record {
             is =
                 E plan parent .is ∙ ap (λ T. method.setRight (hunt a plan) T (a .hunter)) blank-core
-                ∙ ap (λ k. method.setRight (record { graph = graphOf (floor a plan); hunter = a .hunter; target = a .target; km = k }) (method.withRhs (blank (area a)) (a .hunter) 0 0) (a .hunter)) zero-km;
+                ∙ ap (λ k. method.setRight (record { graph = graphIn (frameOf a) plan; hunter = a .hunter; target = a .target; km = k }) (method.withRhs (blank (area a)) (a .hunter) 0 0) (a .hunter)) zero-km;
             heap = E plan parent .heap;
           }
 

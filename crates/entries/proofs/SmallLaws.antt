@@ -8,10 +8,10 @@ use native.Mathlib.Decide.{decLt}
 use lib.ListN.{getD, length, List·getD-eq-default}
 use Rattle.method.specs.Numbers.{infinite, mostCost, growth}
 use Rattle.method.proofs.Theorems.{rhs-below}
-use Rattle.plan.proofs.GridLaws.{graph-laws}
 use Rattle.tables.specs.declared.Session.{Session}
-use Rattle.tables.specs.Lent.{Tables, tables, cells, floor}
+use Rattle.tables.specs.Lent.{Tables, tables, frame, cells}
 use Rattle.tables.specs.Sound.{Sound}
+use Rattle.tables.proofs.FrameLaws.{graph-in-laws}
 use Rattle.entries.specs.Aims.{aimOf, Held, Small, mostG, mostRhs}
 
 -- A list is small if its cells' numbers are: behind its end stands 0.
@@ -32,7 +32,7 @@ module _ {s : Session} {t : Tables} (S : Sound s t) where
   sound-small-rhs =
       small-by (t .rhs) (cells s) (S .numbers .sized .rhs)
       (λ k l. ⊎-elim (λ (e : getD (t .rhs) k 0 ≡ infinite). inl e) (λ (h : getD (t .rhs) k 0 ≤ growth * s .searches + mostCost). inr (omega (arith, S .numbers .searches-le)))
-      (rhs-below (graph-laws (floor s (t .plan)) (S .plan .size)) (S .numbers) k l))
+      (rhs-below (graph-in-laws (frame s) (t .plan) (S .plan .size)) (S .numbers) k l))
 
   -- .. whatever the plan
   pub sound-held : (plan : List ℕ) (row column : ℕ) → Held (aimOf s row column) (s .count) (tables plan (t .g) (t .rhs) (t .parent) (t .k1) (t .k2) (t .place) (t .list))

@@ -10,23 +10,26 @@ use Rattle.method.specs.Tables.{Sized}
 use Rattle.queue.specs.Queue.{Heap}
 use Rattle.plan.specs.Cells.{Stands}
 use Rattle.plan.specs.Costs.{Plan, planOf, Obeys}
-use Rattle.plan.specs.Grid.{graphOf}
 use Rattle.plan.specs.Reached.{At}
 use Rattle.plan.specs.declared.Spot.{Spot}
 use Rattle.tables.specs.declared.Session.{Session}
-use Rattle.tables.specs.Lent.{Tables, core}
+use Rattle.tables.specs.Lent.{Tables, Frame, frameOfSize, floorIn, graphIn, core}
 use Rattle.entries.specs.declared.Aim.{Aim}
 
 -- The number of cells.
 abbrev pub area : Aim → ℕ
 area a = a .height * a .width
 
+-- The frame of the session that has this aim, and its floor plan.
+abbrev pub frameOf : Aim → Frame
+frameOf a = frameOfSize (a .width) (a .height)
+
 abbrev pub floor : Aim → List ℕ → Plan
-floor a plan = planOf (a .width) (a .height) plan
+floor a plan = floorIn (frameOf a) plan
 
 -- The method's hunt.
 abbrev pub hunt : Aim → List ℕ → Hunt
-hunt a plan = record { graph = graphOf (floor a plan); hunter = a .hunter; target = a .target; km = a .km }
+hunt a plan = record { graph = graphIn (frameOf a) plan; hunter = a .hunter; target = a .target; km = a .km }
 
 -- What the last search taken over goes by, with its target's row and column.
 abbrev pub aimOf : Session → ℕ → ℕ → Aim

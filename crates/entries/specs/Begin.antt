@@ -3,24 +3,27 @@ use mathlib.Core.Path.{_≡_}
 use Prim.Native.Nat.{ℕ, _*_, _<_}
 use Rattle.method.specs.Session.{fresh}
 use Rattle.queue.specs.Queue.{Heap}
-use Rattle.plan.specs.Costs.{planOf, Obeys}
-use Rattle.plan.specs.Grid.{graphOf}
+use Rattle.plan.specs.Costs.{Obeys}
 use Rattle.tables.specs.declared.Session.{Session}
-use Rattle.tables.specs.Lent.{Tables, core, Fits}
+use Rattle.tables.specs.Lent.{Tables, Frame, framed, Fits, floorIn, graphIn, core}
 
 -- A fresh start can be made: tables of their lengths, both cells in the plan, an obedient plan. An open that no rule refuses has all this.
-pub record Openable (width height hunter target : ℕ) (t : Tables) : Type 0 where
-  pub fits : Fits (height * width) t
-  pub hunter-in : hunter < height * width
-  pub target-in : target < height * width
-  pub obeys : Obeys (planOf width height (t .plan))
+pub record Openable (f : Frame) (hunter target : ℕ) (t : Tables) : Type 0 where
+  pub fits : Fits (f .height * f .width) t
+  pub hunter-in : hunter < f .height * f .width
+  pub target-in : target < f .height * f .width
+  pub obeys : Obeys (floorIn f (t .plan))
+
+-- The record of a session in a frame with both cells placed, before its tables are filled.
+abbrev pub placedOn : Frame → ℕ → ℕ → Session
+placedOn f hunter target = framed f hunter target hunter target 0 0 0
 
 -- The record of a fresh start: "km and search number 0; the cells given stand as placed and as the last search's"; the hunter alone is queued.
-abbrev pub begun : ℕ → ℕ → ℕ → ℕ → Session
-begun width height hunter target = record { width = width; height = height; hunter = hunter; target = target; origin = hunter; goal = target; km = 0; count = 1; searches = 0 }
+abbrev pub begun : Frame → ℕ → ℕ → Session
+begun f hunter target = framed f hunter target hunter target 0 1 0
 
 -- The tables t became t′: "g and rhs infinite, parent 0; the hunter's rhs 0 and the hunter queued under its key", in a true heap of one cell. The plan is as it was.
-pub record Opened (width height hunter target : ℕ) (t t′ : Tables) : Type 0 where
+pub record Opened (f : Frame) (hunter target : ℕ) (t t′ : Tables) : Type 0 where
   pub plan : t′ .plan ≡ t .plan
-  pub is : core t′ ≡ fresh (graphOf (planOf width height (t .plan))) hunter target
-  pub heap : Heap width (height * width) 1 (t′ .k1) (t′ .k2) (t′ .place) (t′ .list)
+  pub is : core t′ ≡ fresh (graphIn f (t .plan)) hunter target
+  pub heap : Heap (f .width) (f .height * f .width) 1 (t′ .k1) (t′ .k2) (t′ .place) (t′ .list)

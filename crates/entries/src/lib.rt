@@ -13,11 +13,11 @@ ghost use Rattle.method.specs.Tables.{leastOver, anew as anewOf, foundAnew};
 ghost use Rattle.method.specs.Session.{fresh as freshOf};
 ghost use Rattle.queue.specs.Queue.{EntryKept};
 ghost use Rattle.plan.specs.Costs.{planOf};
-ghost use Rattle.plan.specs.Grid.{intoBy, graphOf};
+ghost use Rattle.plan.specs.Grid.{intoBy};
 ghost use Rattle.plan.specs.Reached.{Placed, between};
-ghost use Rattle.tables.specs.Lent.{core, given, before, after, Fits};
-ghost use Rattle.entries.specs.Aims.{area, floor, hunt, AimOf, Aimed, mostRhs, Findable, ReadyAt};
-ghost use Rattle.entries.specs.Begin.{Openable, begun, Opened};
+ghost use Rattle.tables.specs.Lent.{given, before, after, frame, frameOfSize, Fits, graphIn, core};
+ghost use Rattle.entries.specs.Aims.{area, frameOf, hunt, AimOf, Aimed, mostRhs, Findable, ReadyAt};
+ghost use Rattle.entries.specs.Begin.{Openable, placedOn, begun, Opened};
 ghost use Rattle.entries.specs.Became.{Became, Entering, Entered, Taking, Taken, foundOf};
 
 // What a search goes by: the plan's size, the hunter and the target taken over, the target's row and column, and km.
@@ -164,16 +164,16 @@ fn looked_at(
 }
 
 // The first least sum over the neighbours in direction order, with its parent byte.
-pub fn anew(width: usize, height: usize, plan: &[u8], g: &[u32], s: usize) -> Found
-    requires { ⌜ Findable width height (now plan) (now g) s ⌝ }
-    ensures { λ r. ⌜ foundOf r ≡ anewOf (graphOf (planOf width height (now (plan .entry)))) (now (g .entry)) s ⌝ }
+pub fn anew(a: Aim, plan: &[u8], g: &[u32], s: usize) -> Found
+    requires { ⌜ Findable (a .width) (a .height) (now plan) (now g) s ⌝ }
+    ensures { λ r. ⌜ foundOf r ≡ anewOf (graphIn (frameOf a) (now (plan .entry))) (now (g .entry)) s ⌝ }
 {
     let mut best = Found {
         rhs: tables::INFINITE,
         parent: 0,
     };
     for d in 0..4 {
-        best = looked_at(width, height, plan, g, s, best, d);
+        best = looked_at(a.width, a.height, plan, g, s, best, d);
     }
     best
 }
@@ -197,7 +197,7 @@ pub fn found_anew(
     ensures { λ r. ⌜ Became a r (after plan g rhs parent k1 k2 place list) (foundAnew (hunt a (now (plan .entry))) (core (before plan g rhs parent k1 k2 place list)) cell) ⌝ }
     ensures { λ r. ⌜ EntryKept count (now (k1 .entry)) (now (k2 .entry)) (now (place .entry)) (now (list .entry)) r (now (k1 .exit)) (now (k2 .exit)) (now (place .exit)) (now (list .exit)) ⌝ }
 {
-    let f = anew(a.width, a.height, plan, g, cell);
+    let f = anew(a, plan, g, cell);
     take(a, g, rhs, parent, k1, k2, place, list, count, cell, at, f)
 }
 
@@ -242,7 +242,7 @@ fn fresh(
 ) -> usize
     requires { ⌜ Aimed a (now plan) × (a .km ≡ 0) ⌝ }
     requires { ⌜ Fits (area a) (given plan g rhs parent k1 k2 place list) ⌝ }
-    ensures { λ r. ⌜ Became a r (after plan g rhs parent k1 k2 place list) (freshOf (graphOf (floor a (now (plan .entry)))) (a .hunter) (a .target)) ⌝ }
+    ensures { λ r. ⌜ Became a r (after plan g rhs parent k1 k2 place list) (freshOf (graphIn (frameOf a) (now (plan .entry))) (a .hunter) (a .target)) ⌝ }
     ensures { λ r. ⌜ r ≡ 1 ⌝ }
 {
     fill_words(g, tables::INFINITE);
@@ -258,25 +258,11 @@ fn fresh(
     set_right(a, g, rhs, k1, k2, place, list, 0, hunter, at)
 }
 
-// A fresh start at the cells given: fills all tables but the plan, and returns the record.
-pub fn begin(
-    width: usize,
-    height: usize,
-    hunter: usize,
-    target: usize,
-    plan: &[u8],
-    g: &mut [u32],
-    rhs: &mut [u32],
-    parent: &mut [u8],
-    k1: &mut [u32],
-    k2: &mut [u32],
-    place: &mut [u16],
-    list: &mut [u16],
-) -> Session
-    requires { ⌜ Openable width height hunter target (given plan g rhs parent k1 k2 place list) ⌝ }
-    ensures { λ r. ⌜ (r ≡ begun width height hunter target) × Opened width height hunter target (before plan g rhs parent k1 k2 place list) (after plan g rhs parent k1 k2 place list) ⌝ }
+// The record of a session on a plan of this size with both cells placed, before its tables are filled.
+pub fn placed_on(width: usize, height: usize, hunter: usize, target: usize) -> Session
+    ensures { λ r. ⌜ r ≡ placedOn (frameOfSize width height) hunter target ⌝ }
 {
-    let mut session = Session {
+    Session {
         width,
         height,
         hunter,
@@ -286,7 +272,30 @@ pub fn begin(
         km: 0,
         count: 0,
         searches: 0,
-    };
+    }
+}
+
+// A fresh start of a session at its placed cells: fills all tables but the plan, and returns the record.
+pub fn begin(
+    s: Session,
+    plan: &[u8],
+    g: &mut [u32],
+    rhs: &mut [u32],
+    parent: &mut [u8],
+    k1: &mut [u32],
+    k2: &mut [u32],
+    place: &mut [u16],
+    list: &mut [u16],
+) -> Session
+    requires { ⌜ Openable (frame s) (s .hunter) (s .target) (given plan g rhs parent k1 k2 place list) ⌝ }
+    ensures { λ r. ⌜ (r ≡ begun (frame s) (s .hunter) (s .target)) × Opened (frame s) (s .hunter) (s .target) (before plan g rhs parent k1 k2 place list) (after plan g rhs parent k1 k2 place list) ⌝ }
+{
+    let mut session = s;
+    session.origin = s.hunter;
+    session.goal = s.target;
+    session.km = 0;
+    session.count = 0;
+    session.searches = 0;
     let a = aim_of(session);
     session.count = fresh(a, plan, g, rhs, parent, k1, k2, place, list);
     session

@@ -7,7 +7,7 @@ use native.Mathlib.Omega.{arith}
 use lib.ListN.{getD, set, length-set, length-replicate, getD-replicate}
 use lib.Seq.{getD-set-same, getD-set-other}
 use Rattle.decide.proofs.ChooseLaws.{choose-is}
-use Rattle.method.specs.Numbers.{infinite, mostCost, mostEstimate, mostSearches, growth}
+use Rattle.method.specs.Numbers.{infinite, mostCost, mostEstimate, mostSearches, renewal, growth}
 use Rattle.method.specs.Graph.{Graph, GraphLaws, Hunt}
 use Rattle.method.specs.Tables.{Tables, Sized, gAt, rhsAt, parentAt, queuedAt, storedKey, anew, LeastAt}
 use Rattle.method.specs.Session.{Session, huntOf, State, opened, blank, fresh, freshStart, targetTaken, hunterTaken, handedOver, takenOver}
@@ -178,13 +178,13 @@ module _ {G : Graph} (L : GraphLaws G) {σ : Session} {T : Tables} (S : Sound G 
         within = λ most F. bound-more (omega arith) b;
       }
 
-  ready-target : σ .searches ≢ mostSearches → σ .hunter ≡ σ .origin → Ready G σ T (record { session = targetTaken G σ; tables = T })
+  ready-target : (renewal ≤ σ .searches → ⊥) → σ .hunter ≡ σ .origin → Ready G σ T (record { session = targetTaken G σ; tables = T })
   ready-target n e = record {
     hunter = sym e;
     target = refl;
     placed-hunter = refl;
     placed-target = refl;
-    searches-lt = omega (arith, n, S .searches-le);
+    searches-lt = omega (arith, n);
     km-le = omega (arith, S .km-le, L .estimate-le (σ .goal) (σ .target) (S .goal-in) (S .target-in));
     sized = S .sized;
     right = target-right L σ (sound-right S);
@@ -192,14 +192,14 @@ module _ {G : Graph} (L : GraphLaws G) {σ : Session} {T : Tables} (S : Sound G 
     within = λ most F. within-here F;
   }
 
-  ready-hunter : σ .searches ≢ mostSearches → σ .hunter ≢ σ .origin → rhsAt T (σ .hunter) ≢ infinite
+  ready-hunter : (renewal ≤ σ .searches → ⊥) → σ .hunter ≢ σ .origin → rhsAt T (σ .hunter) ≢ infinite
       → Ready G σ T (record { session = hunterTaken (targetTaken G σ); tables = handedOver (huntOf G (hunterTaken (targetTaken G σ))) T (σ .origin) })
   ready-hunter n ne nf = record {
     hunter = refl;
     target = refl;
     placed-hunter = refl;
     placed-target = refl;
-    searches-lt = omega (arith, n, S .searches-le);
+    searches-lt = omega (arith, n);
     km-le = omega (arith, S .km-le, L .estimate-le (σ .goal) (σ .target) (S .goal-in) (S .target-in));
     sized = handedOver-sized (S .sized) (huntOf G (hunterTaken (targetTaken G σ))) (σ .origin);
     right = handed-right L′ (S .sized) R (S .hunter-in) ne fin;

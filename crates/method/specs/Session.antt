@@ -2,7 +2,7 @@
 use mathlib.Core.Bool.{true, false, Bool-discrete}
 use mathlib.Core.List.{List, [], _∷_}
 use Prim.Native.Nat.{ℕ, zero, suc, _+_, _-_, _*_}
-use native.Mathlib.Decide.{ℕ-discrete, decLt}
+use native.Mathlib.Decide.{ℕ-discrete, decLe, decLt}
 use lib.ListN.{length, getD, set, replicate}
 use Rattle.decide.specs.Choose.{choose}
 use Rattle.method.specs.Numbers.{infinite, renewal}
@@ -27,6 +27,10 @@ pub record State : Type 0 where
   pub session : Session
   pub tables : Tables
 
+-- The session σ with these numbers. What a session would hold besides, none of these calls would change.
+abbrev pub keeping : Session → (hunter target origin goal km searches : ℕ) → Session
+keeping σ hunter target origin goal km searches = record { hunter = hunter; target = target; origin = origin; goal = goal; km = km; searches = searches }
+
 -- Open: "km and search number 0; the cells given stand as placed and as the last search's"
 abbrev pub opened : ℕ → ℕ → Session
 opened hunter target = record { hunter = hunter; target = target; origin = hunter; goal = target; km = 0; searches = 0 }
@@ -44,10 +48,10 @@ freshStart G hunter target = record { session = opened hunter target; tables = f
 
 -- "Place hunter, place target: change one field of the record."
 abbrev pub hunterPlaced : Session → ℕ → Session
-hunterPlaced σ s = record { hunter = s; target = σ .target; origin = σ .origin; goal = σ .goal; km = σ .km; searches = σ .searches }
+hunterPlaced σ s = keeping σ s (σ .target) (σ .origin) (σ .goal) (σ .km) (σ .searches)
 
 abbrev pub targetPlaced : Session → ℕ → Session
-targetPlaced σ s = record { hunter = σ .hunter; target = s; origin = σ .origin; goal = σ .goal; km = σ .km; searches = σ .searches }
+targetPlaced σ s = keeping σ (σ .hunter) s (σ .origin) (σ .goal) (σ .km) (σ .searches)
 
 -- Change a move from u into v, which gives v the parent code k, from the number `old` to `new`; H has the graph after the change.
 -- A shut move's number is above every cost. "If it falls: where the cell v entered is not the search's hunter and g(u) + cost < rhs(v),
@@ -64,10 +68,10 @@ moveChanged H T v k u old new =
 
 -- "take over the target: km grows by the estimate between old and new target"
 abbrev pub targetTaken : Graph → Session → Session
-targetTaken G σ = record { hunter = σ .hunter; target = σ .target; origin = σ .origin; goal = σ .target; km = σ .km + G .estimate (σ .goal) (σ .target); searches = σ .searches }
+targetTaken G σ = keeping σ (σ .hunter) (σ .target) (σ .origin) (σ .target) (σ .km + G .estimate (σ .goal) (σ .target)) (σ .searches)
 
 abbrev pub hunterTaken : Session → Session
-hunterTaken σ = record { hunter = σ .hunter; target = σ .target; origin = σ .hunter; goal = σ .goal; km = σ .km; searches = σ .searches }
+hunterTaken σ = keeping σ (σ .hunter) (σ .target) (σ .hunter) (σ .goal) (σ .km) (σ .searches)
 
 -- The new hunter's "rhs is kept, its parent becomes 0, and the old hunter's rhs, parent and queue entry are found anew"
 unfoldable pub handedOver : Hunt → Tables → ℕ → Tables
@@ -77,7 +81,7 @@ handedOver H T old =
 -- "If the search number is 1,000, start fresh. Else take over the target. Then, only if the hunter changed, take it over: if the new hunter's rhs is infinite, start fresh; else .."
 unfoldable pub takenOver : Graph → Session → Tables → State
 takenOver G σ T =
-    choose (ℕ-discrete (σ .searches) renewal) (freshStart G (σ .hunter) (σ .target))
+    choose (decLe renewal (σ .searches)) (freshStart G (σ .hunter) (σ .target))
     (choose (ℕ-discrete (σ .hunter) (σ .origin)) (record { session = targetTaken G σ; tables = T })
     (choose (ℕ-discrete (rhsAt T (σ .hunter)) infinite) (freshStart G (σ .hunter) (σ .target))
     (record {
@@ -87,7 +91,7 @@ takenOver G σ T =
 
 -- "The search number grows by 1."
 abbrev pub counted : Session → Session
-counted σ = record { hunter = σ .hunter; target = σ .target; origin = σ .origin; goal = σ .goal; km = σ .km; searches = suc (σ .searches) }
+counted σ = keeping σ (σ .hunter) (σ .target) (σ .origin) (σ .goal) (σ .km) (suc (σ .searches))
 
 -- The cell that a parent code names.
 unfoldable pub parentCell : List Move → ℕ → ℕ

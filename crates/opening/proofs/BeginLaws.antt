@@ -8,14 +8,14 @@ use native.Mathlib.Omega.{arith}
 use lib.ListN.{length, take, set, getD}
 use lib.Seq.{take-suc, take-length, length-take-le}
 use Rattle.method.specs.Session as method-session
-use Rattle.plan.specs.Costs.{planOf}
 use Rattle.tables.specs.declared.Session.{Session}
-use Rattle.tables.specs.Lent.{Tables, core, Fits}
+use Rattle.tables.specs.Lent.{Tables, Frame, frameOfSize, floorIn, core, Fits}
 use Rattle.tables.specs.Sound.{Sound}
 use Rattle.entries.specs.Begin.{Openable, Opened, begun as begun-record}
 use Rattle.session.specs.Refusals.{OpenRules}
 use Rattle.session.proofs.Theorems.{fresh-sound}
 use Rattle.change.specs.Promise.{withPlan}
+use Rattle.standing.specs.Standing.{standing, stands, opened}
 use Rattle.drill_file.specs.declared.Trailer.{Trailer}
 use Rattle.drill_file.specs.File.{trailerOf, trailerIn, cells, cellsIn, formNumber}
 use Rattle.drill_file.proofs.FileLaws.{trailer-there}
@@ -23,9 +23,8 @@ use Rattle.text.specs.Put.{Put}
 use Rattle.text.proofs.PutLaws.{put-byte, put-then, put-as}
 use Rattle.drill.specs.declared.Played.{Played}
 use Rattle.drill.specs.Numbers.{openNumber}
-use Rattle.drill.specs.Play.{standing}
-use Rattle.drill.specs.Output.{planIn, fileNumber, opens, begun}
-use Rattle.drill.specs.Promises.{stands, Refuses, Starts, Begins}
+use Rattle.drill.specs.Output.{frameIn, planIn, fileNumber, begun}
+use Rattle.drill.specs.Promises.{Refuses, Starts, Begins}
 use Rattle.drill.proofs.NumberLaws.{open-number, number-opens, formed, file-number, cells-formed}
 
 -- ---- the plan copied
@@ -40,6 +39,10 @@ pub copied-all : {b a : List ℕ} (file : List ℕ) (i : ℕ) → i ≡ length b
 copied-all {b} {a} file i e p = sym (ap (λ k. take k a) (e ∙ sym (p .long)) ∙ take-length a) ∙ p .stands ∙ ap (λ k. take k file) e
 
 -- ---- a file of right form, on tables of its size
+
+-- The frame that a trailer tells.
+abbrev frameTold : Trailer → Frame
+frameTold x = frameOfSize (x .width) (x .height)
 
 module _ (file : List ℕ) {t : Tables} (fits : Fits (cellsIn file) t) (formed-right : formNumber file ≡ 0) where
   plan-is : length (t .plan) ≡ 4 * cells (trailerOf file)
@@ -69,50 +72,47 @@ module _ (file : List ℕ) {t : Tables} (fits : Fits (cellsIn file) t) (formed-r
           list = fits .list ∙ e;
         }
 
-    planned : planOf (trailerOf file .width) (trailerOf file .height) plan ≡ planIn file
-    planned = ap (planOf (trailerOf file .width) (trailerOf file .height)) (p ∙ ap (λ k. take k file) plan-is)
+    planned : plan ≡ planIn file
+    planned = p ∙ ap (λ k. take k file) plan-is
+
+    number-planned : openNumber (floorIn (frameIn file) plan) (trailerOf file .hunter) (trailerOf file .target) ≡ fileNumber file
+    number-planned = ap (λ y. openNumber (floorIn (frameIn file) y) (trailerOf file .hunter) (trailerOf file .target)) planned ∙ sym (file-number file formed-right)
 
     -- The number of the first of open's rules that these bytes break is the file's.
     pub number-found : {x : Trailer} {k : ℕ} → x ≡ trailerIn file → OpenRules (x .width) (x .height) (x .hunter) (x .target) (withPlan t plan) k → k ≡ fileNumber file
     number-found {x} {k} e r =
         open-number (formed file formed-right .size) fits-planned (subst (λ (y : Trailer). OpenRules (y .width) (y .height) (y .hunter) (y .target) (withPlan t plan) k) (is-trailer e) r)
-        ∙ ap (λ y. openNumber y (trailerOf file .hunter) (trailerOf file .target)) planned ∙ sym (file-number file formed-right)
+        ∙ number-planned
 
     -- Where it is 0, a fresh start can be made on them ..
-    pub openable : {x : Trailer} → x ≡ trailerIn file → fileNumber file ≡ 0 → Openable (x .width) (x .height) (x .hunter) (x .target) (withPlan t plan)
+    pub openable : {x : Trailer} → x ≡ trailerIn file → fileNumber file ≡ 0 → Openable (frameTold x) (x .hunter) (x .target) (withPlan t plan)
     openable {x} e z =
-        subst (λ (y : Trailer). Openable (y .width) (y .height) (y .hunter) (y .target) (withPlan t plan)) (sym (is-trailer e))
-        (number-opens (formed file formed-right .size) fits-planned (ap (λ y. openNumber y (trailerOf file .hunter) (trailerOf file .target)) planned ∙ sym (file-number file formed-right) ∙ z))
+        subst (λ (y : Trailer). Openable (frameTold y) (y .hunter) (y .target) (withPlan t plan)) (sym (is-trailer e))
+        (number-opens (formed file formed-right .size) fits-planned (number-planned ∙ z))
 
     -- .. which leaves what the definition says.
     pub starts : {x : Trailer} {s : Session} {t′ : Tables} {text : List ℕ} {r : Played} → x ≡ trailerIn file → fileNumber file ≡ 0
-        → (s ≡ begun-record (x .width) (x .height) (x .hunter) (x .target)) × Opened (x .width) (x .height) (x .hunter) (x .target) (withPlan t plan) t′
+        → (s ≡ begun-record (frameTold x) (x .hunter) (x .target)) × Opened (frameTold x) (x .hunter) (x .target) (withPlan t plan) t′
         → r ≡ record { session = s; at = x .offset; left = x .actions; used = 0 } → Starts file text r t′ text
     starts {x} {s} {t′} {text} e z d is = subst (λ (r : Played). Starts file text r t′ text) (sym is) (record {
       sound = subst (λ y. Sound y t′) (sym (d .0)) (fresh-sound (openable e z) (d .1));
-      after = left (subst (λ (y : Trailer). (s ≡ begun-record (y .width) (y .height) (y .hunter) (y .target)) × Opened (y .width) (y .height) (y .hunter) (y .target) (withPlan t plan) t′) (is-trailer e) d);
+      after = left (subst (λ (y : Trailer). (s ≡ begun-record (frameTold y) (y .hunter) (y .target)) × Opened (frameTold y) (y .hunter) (y .target) (withPlan t plan) t′) (is-trailer e) d);
       place = ap (λ (y : Trailer). y .offset) (is-trailer e);
       all-left = ap (λ (y : Trailer). y .actions) (is-trailer e);
       unused = refl;
       blank = refl;
     })
       where
-        w : ℕ
-        w = trailerOf file .width
-
-        h : ℕ
-        h = trailerOf file .height
-
         hunter : ℕ
         hunter = trailerOf file .hunter
 
         target : ℕ
         target = trailerOf file .target
 
-        left : (s ≡ begun-record w h hunter target) × Opened w h hunter target (withPlan t plan) t′ → stands s t′ ≡ begun file
+        left : (s ≡ begun-record (frameIn file) hunter target) × Opened (frameIn file) hunter target (withPlan t plan) t′ → stands s t′ ≡ begun file
         left d =
-            ap (λ y. stands y t′) (d .0) ∙ ap (λ y. standing (planOf w h y) (method-session.opened hunter target) (core t′)) (d .1 .plan)
-            ∙ ap (λ y. standing (planOf w h plan) (method-session.opened hunter target) y) (d .1 .is) ∙ ap (λ y. opens y hunter target) planned
+            ap (λ y. stands y t′) (d .0) ∙ ap (λ y. standing (frameIn file) y (method-session.opened hunter target) (core t′)) (d .1 .plan)
+            ∙ ap (standing (frameIn file) plan (method-session.opened hunter target)) (d .1 .is) ∙ ap (λ y. opened (frameIn file) y hunter target) planned
 
 -- ---- refused or opened
 

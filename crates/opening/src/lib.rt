@@ -70,17 +70,7 @@ fn refuse(number: u8, text: &mut [u8]) -> Played
     requires { ⌜ room 0 ≤ length (now text) ⌝ }
     ensures { λ r. ⌜ Refuses number (now (text .entry)) r (now (text .exit)) ⌝ }
 {
-    let nothing = Session {
-        width: 0,
-        height: 0,
-        hunter: 0,
-        target: 0,
-        origin: 0,
-        goal: 0,
-        km: 0,
-        count: 0,
-        searches: 0,
-    };
+    let nothing = entries::placed_on(0, 0, 0, 0);
     let used = lines::put_refusal(number, text, 0);
     Played {
         session: nothing,
@@ -125,19 +115,7 @@ pub fn begin(
         return refuse(number, text);
     }
     copy_plan(file, plan);
-    let session = entries::begin(
-        t.width,
-        t.height,
-        t.hunter,
-        t.target,
-        plan,
-        g,
-        rhs,
-        parent,
-        k1,
-        k2,
-        place,
-        list,
-    );
+    let placed = entries::placed_on(t.width, t.height, t.hunter, t.target);
+    let session = entries::begin(placed, plan, g, rhs, parent, k1, k2, place, list);
     opened(session, t)
 }

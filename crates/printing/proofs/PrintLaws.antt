@@ -8,11 +8,12 @@ use lib.ListN.{length, take, getD, set}
 use lib.Seq.{getD-set-same, length-take-le}
 use Rattle.tables.specs.declared.Session.{Session}
 use Rattle.tables.specs.Lent.{Tables}
+use Rattle.standing.specs.Standing.{stands}
 use Rattle.drill_file.specs.File.{actionsFrom}
 use Rattle.text.proofs.PutLaws.{put-end}
 use Rattle.drill.specs.declared.Played.{Played}
 use Rattle.drill.specs.Output.{output}
-use Rattle.drill.specs.Promises.{stands, Playing, Plays, Unprinted, NextPiece}
+use Rattle.drill.specs.Promises.{Playing, Plays, Unprinted, NextPiece}
 use Rattle.drill.proofs.PieceLaws.{all-printed, next-piece, next-printed, same-cells, rest-playing, rest-fewer}
 use Rattle.drill.proofs.LengthLaws.{output-few, piece-counted}
 use Rattle.printing.specs.Promises.{failed, counted, Piece, Moves, Printing, WrittenTo}

@@ -6,9 +6,10 @@ use Prim.Native.Nat.{ℕ, _≤_}
 use lib.ListN.{length, take, getD}
 use Rattle.tables.specs.declared.Session.{Session}
 use Rattle.tables.specs.Lent.{Tables, cells}
+use Rattle.standing.specs.Standing.{stands}
 use Rattle.drill_file.specs.File.{actionsFrom}
 use Rattle.lines.specs.Lines.{room}
-use Rattle.drill.specs.Promises.{stands, Playing, Unprinted, NextPiece}
+use Rattle.drill.specs.Promises.{Playing, Unprinted, NextPiece}
 
 -- What the count is once a write has failed: a number that no output has (`output-few`), so that no piece is the next any more.
 abbrev pub failed : ℕ

@@ -9,12 +9,13 @@ use lib.ListN.{length, take, drop}
 use lib.Seq.{length-take-le}
 use Rattle.plan.proofs.MoveLaws.{area}
 use Rattle.tables.specs.Lent.{Lent, Tables, tables}
+use Rattle.standing.specs.Standing.{stands}
 use Rattle.drill_file.specs.declared.Trailer.{Trailer}
 use Rattle.drill_file.specs.File.{trailerIn, cellsTold, cellsIn, actionsFrom}
 use Rattle.drill_file.proofs.FileLaws.{cells-of, cells-few}
 use Rattle.drill.specs.declared.Played.{Played}
 use Rattle.drill.specs.Output.{output}
-use Rattle.drill.specs.Promises.{stands, Playing, Begins, Unprinted, NextPiece}
+use Rattle.drill.specs.Promises.{Playing, Begins, Unprinted, NextPiece}
 use Rattle.drill.proofs.PieceLaws.{from-start, all-printed, first-piece, first-printed, begun-long, begun-used, begun-playing}
 use Rattle.printing.specs.Promises.{counted, Piece, Moves, Printing, WrittenTo}
 use Rattle.runner.specs.Own.{Own, Running, mostCells}

@@ -19,12 +19,12 @@ use Rattle.method.proofs.Readying.{takenOver-sized, ready}
 use Rattle.method.proofs.Answers.{Stopped, Trail, trail, trail-way}
 use Rattle.method.proofs.Searching.{huntTaken, boundTaken, runTaken, during-start, went-to, ended}
 use Rattle.queue.specs.Queue.{members}
-use Rattle.plan.proofs.GridLaws.{graph-laws}
 use Rattle.plan.proofs.MoveLaws.{area}
 use Rattle.tables.specs.declared.Session.{Session}
-use Rattle.tables.specs.Lent.{Tables, tables, cells, floor, graph, session, core}
+use Rattle.tables.specs.Lent.{Tables, Frame, tables, frame, framed, cells, graph, session, core}
 use Rattle.tables.specs.Sound.{Sound}
 use Rattle.tables.specs.Told.{Told, toldWay}
+use Rattle.tables.proofs.FrameLaws.{graph-in-laws}
 use Rattle.entries.specs.declared.Aim.{Aim}
 use Rattle.entries.specs.Aims.{AimOf, Aimed, Held}
 use Rattle.steps.specs.Loop.{Started, Finished}
@@ -57,8 +57,7 @@ module _ {s : Session} {t : Tables} (S : Sound s t) (e : s .hunter ≡ s .target
   pub searched-caught : {way way′ : List ℕ} → cells s ≤ length way → way′ ≡ set way 0 (s .hunter) → Searched s t way (record { session = s; answer = Caught (s .hunter) }) t way′
   searched-caught {way} long ew = record {
     answer = sym (ap (λ o. tells (o .answer)) caught-is);
-    wide = refl;
-    high = refl;
+    frame-is = refl;
     record-is = sym (ap (λ o. o .session) caught-is);
     plan = refl;
     tables-are = sym (ap (λ o. o .tables) caught-is);
@@ -71,17 +70,21 @@ module _ {s : Session} {t : Tables} (S : Sound s t) (e : s .hunter ≡ s .target
 
 -- ---- the search proper
 
+-- The plan still has a column after the take-over.
+pub wide-after : {s r : Session} {t t′ : Tables} {m : calls.State} → Sound s t → Holds s m r t′ → 1 ≤ r .width
+wide-after S H = omega (arith, ap (λ f. f .width) (H .frame-is), S .plan .size .wide)
+
 -- What the search goes by after the take-over, in the method's session σ.
-abbrev aimBy : ℕ → ℕ → calls.Session → ℕ → ℕ → Aim
-aimBy width height σ row column = record { width = width; height = height; hunter = σ .origin; target = σ .goal; row = row; column = column; km = σ .km }
+abbrev aimBy : Frame → calls.Session → ℕ → ℕ → Aim
+aimBy f σ row column = record { width = f .width; height = f .height; hunter = σ .origin; target = σ .goal; row = row; column = column; km = σ .km }
 
 -- The record that a search leaves: so many cells queued, so many searches.
 abbrev pub leftBy : Session → ℕ → ℕ → Session
-leftBy r count searches = record { width = r .width; height = r .height; hunter = r .hunter; target = r .target; origin = r .origin; goal = r .goal; km = r .km; count = count; searches = searches }
+leftBy r count searches = framed (frame r) (r .hunter) (r .target) (r .origin) (r .goal) (r .km) count searches
 
 module _ {s : Session} {t : Tables} (S : Sound s t) where
   laws : GraphLaws (graph s t)
-  laws = graph-laws (floor s (t .plan)) (S .plan .size)
+  laws = graph-in-laws (frame s) (t .plan) (S .plan .size)
 
   abbrev taken : calls.State
   taken = calls.takenOver (graph s t) (session s) (core t)
@@ -98,12 +101,11 @@ module _ {s : Session} {t : Tables} (S : Sound s t) where
     H = K .holds
 
     abbrev b : Aim
-    b = aimBy (s .width) (s .height) (calls.takenOver (graph s t) (session s) (core t) .session) (a .row) (a .column)
+    b = aimBy (frame s) (calls.takenOver (graph s t) (session s) (core t) .session) (a .row) (a .column)
 
-    pub aim-is : a ≡ aimBy (s .width) (s .height) (calls.takenOver (graph s t) (session s) (core t) .session) (a .row) (a .column)
+    pub aim-is : a ≡ aimBy (frame s) (calls.takenOver (graph s t) (session s) (core t) .session) (a .row) (a .column)
     aim-is =
-        O .is ∙ ap (λ w. aimBy w (r .height) (session r) (a .row) (a .column)) (H .wide) ∙ ap (λ h. aimBy (s .width) h (session r) (a .row) (a .column)) (H .high)
-        ∙ ap (λ σ. aimBy (s .width) (s .height) σ (a .row) (a .column)) (H .record-is)
+        O .is ∙ ap (λ f. aimBy f (session r) (a .row) (a .column)) (H .frame-is) ∙ ap (λ σ. aimBy (frame s) σ (a .row) (a .column)) (H .record-is)
 
     pub run-aimed : Aimed a (t .plan)
     run-aimed =
@@ -118,7 +120,7 @@ module _ {s : Session} {t : Tables} (S : Sound s t) where
         })
       where
         stands : Rattle.plan.specs.Cells.Stands (s .width) (taken .session .goal) (a .row) (a .column)
-        stands = subst (λ w. Rattle.plan.specs.Cells.Stands w (taken .session .goal) (a .row) (a .column)) (H .wide)
+        stands = subst (λ w. Rattle.plan.specs.Cells.Stands w (taken .session .goal) (a .row) (a .column)) (ap (λ f. f .width) (H .frame-is))
             (subst (λ x. Rattle.plan.specs.Cells.Stands (r .width) x (a .row) (a .column)) (ap (λ σ. σ .goal) (H .record-is)) (O .target-at))
 
     pub run-started : Started a (3 * cells s) (r .count) (tables (t .plan) g₁ rhs₁ parent₁ k1₁ k2₁ place₁ list₁)
@@ -193,7 +195,7 @@ module _ {s : Session} {t : Tables} (S : Sound s t) where
             not-above = λ f. led f .3;
           })
 
-      pub long-after : Held (aimBy (s .width) (s .height) (calls.takenOver (graph s t) (session s) (core t) .session) (a .row) (a .column)) n (tables (t .plan) g₂ rhs₂ parent₂ k1₂ k2₂ place₂ list₂)
+      pub long-after : Held (aimBy (frame s) (calls.takenOver (graph s t) (session s) (core t) .session) (a .row) (a .column)) n (tables (t .plan) g₂ rhs₂ parent₂ k1₂ k2₂ place₂ list₂)
       long-after = record { sized = during .sized; heap = finished .tables .heap }
 
       -- what the method answers
@@ -231,8 +233,7 @@ module _ {s : Session} {t : Tables} (S : Sound s t) where
             → Searched s t way (record { session = leftBy r n (r .searches + 1); answer = x }) t₂ way′
         by-answer ea ew = record {
           answer = ea;
-          wide = H .wide;
-          high = H .high;
+          frame-is = H .frame-is;
           record-is = record-is;
           plan = refl;
           tables-are = ran-is ∙ ap (λ o. o .tables) (sym search-is);

@@ -6,7 +6,7 @@ use Rattle.decide.specs.Ruled.{holds, Passed}
 use Rattle.decide.proofs.RuledLaws.{passed-one, ruled-one, granted, passed-zero, onward, further, passed-not}
 use Rattle.plan.specs.Cells.{Size}
 use Rattle.tables.specs.declared.Session.{Session}
-use Rattle.tables.specs.Lent.{Tables, cells}
+use Rattle.tables.specs.Lent.{Tables, frameOfSize, cells}
 use Rattle.tables.specs.Sound.{Sound}
 use Rattle.tables.specs.Told.{Name, done, caught, none-leads, way, refusal, toldDone, toldRefusal, toldNumber}
 use Rattle.tables.proofs.SoundLaws.{sound-fits}
@@ -78,7 +78,7 @@ open-number {k = k} {l = l} = ruled-one (ruled-one (ruled-one (ruled-one (ruled-
 pub place-granted : (s : Session) {cell k : ℕ} → PlaceRules s cell k → k ≡ 0 → Size (s .width) (s .height) × (cell < cells s)
 place-granted s r e = let a = granted r e in (a .0, granted (a .1) e .0)
 
-pub open-granted : {width height hunter target : ℕ} {t : Tables} {k : ℕ} → OpenRules width height hunter target t k → k ≡ 0 → Openable width height hunter target t
+pub open-granted : {width height hunter target : ℕ} {t : Tables} {k : ℕ} → OpenRules width height hunter target t k → k ≡ 0 → Openable (frameOfSize width height) hunter target t
 open-granted r e =
     let a = granted r e in
     let b = granted (a .1) e in
@@ -91,7 +91,7 @@ open-granted r e =
 pub place-passes : (s : Session) {cell k : ℕ} → PlaceRules s cell k → Size (s .width) (s .height) → cell < cells s → k ≡ 0
 place-passes s r z l = passed-zero (onward l (onward z r))
 
-pub open-passes : {width height hunter target : ℕ} {t : Tables} {k : ℕ} → OpenRules width height hunter target t k → Openable width height hunter target t → k ≡ 0
+pub open-passes : {width height hunter target : ℕ} {t : Tables} {k : ℕ} → OpenRules width height hunter target t k → Openable (frameOfSize width height) hunter target t → k ≡ 0
 open-passes r o = passed-zero (onward (o .obeys .bytes) (onward (o .obeys .edges) (onward (o .hunter-in, o .target-in) (onward (o .fits) (onward (o .obeys .size) r)))))
 
 -- ---- rules one after the other

@@ -15,12 +15,11 @@ use Rattle.queue.specs.Queue.{absent, members, Heap}
 use Rattle.queue.proofs.MemberLaws.{missing, is-absent, member-at, tally}
 use Rattle.queue.proofs.PlaceLaws.{counted as tallied, not-absent, place-used}
 use Rattle.plan.specs.Cells.{Size}
-use Rattle.plan.specs.Costs.{planOf, Obeys}
-use Rattle.plan.specs.Grid.{graphOf}
-use Rattle.plan.proofs.GridLaws.{graph-laws}
+use Rattle.plan.specs.Costs.{Obeys}
 use Rattle.tables.specs.declared.Session.{Session}
-use Rattle.tables.specs.Lent.{Tables, tables, cells, core}
+use Rattle.tables.specs.Lent.{Tables, Frame, tables, frameOfSize, cells, floorIn, graphIn, core}
 use Rattle.tables.specs.Sound.{Sound}
+use Rattle.tables.proofs.FrameLaws.{graph-in-laws}
 use Rattle.entries.specs.Begin.{Openable, begun, Opened}
 use Rattle.session.specs.declared.Answer.{Answer}
 use Rattle.session.specs.declared.Answer.the-variants.{Done}
@@ -53,7 +52,7 @@ same-reply {r} {r′} e f = ap (λ x. reply x (r .answer)) e ∙ ap (λ x. reply
 pub place-done : {s placed : Session} {cell : ℕ} {r : Reply} → Places s placed cell r → Size (s .width) (s .height) → cell < cells s → (r .answer ≡ Done) × (r .session ≡ placed)
 place-done {s} P z l = let e = place-passes s (P .rules) z l in (place-answer P ∙ ap answered e, P .done e)
 
-pub open-done : {width height hunter target : ℕ} {t t′ : Tables} {r : Reply} → Opens width height hunter target t r t′ → Openable width height hunter target t → r .answer ≡ Done
+pub open-done : {width height hunter target : ℕ} {t t′ : Tables} {r : Reply} → Opens width height hunter target t r t′ → Openable (frameOfSize width height) hunter target t → r .answer ≡ Done
 open-done P o = open-answer P ∙ ap answered (open-passes (P .rules) o)
 
 -- ---- two results of one placing
@@ -179,13 +178,13 @@ alike {width} {room} a a′ p c h h′ =
 -- ---- sound tables
 
 -- A fresh start leaves sound tables ..
-pub fresh-sound : {width height hunter target : ℕ} {t t′ : Tables} → Openable width height hunter target t → Opened width height hunter target t t′ → Sound (begun width height hunter target) t′
-fresh-sound {width} {height} {hunter} {target} {t} {t′} o p = record {
-  plan = subst (λ x. Obeys (planOf width height x)) (sym (p .plan)) (o .obeys);
+pub fresh-sound : {f : Frame} {hunter target : ℕ} {t t′ : Tables} → Openable f hunter target t → Opened f hunter target t t′ → Sound (begun f hunter target) t′
+fresh-sound {f} {hunter} {target} {t} {t′} o p = record {
+  plan = subst (λ x. Obeys (floorIn f x)) (sym (p .plan)) (o .obeys);
   numbers =
-      subst (λ x. method-sound.Sound (graphOf (planOf width height x)) (opened hunter target) (core t′)) (sym (p .plan))
-      (subst (λ T. method-sound.Sound (graphOf (planOf width height (t .plan))) (opened hunter target) T) (sym (p .is))
-      (method-theorems.open-sound (graph-laws (planOf width height (t .plan)) (o .obeys .size)) hunter target (o .hunter-in) (o .target-in)));
+      subst (λ x. method-sound.Sound (graphIn f x) (opened hunter target) (core t′)) (sym (p .plan))
+      (subst (λ T. method-sound.Sound (graphIn f (t .plan)) (opened hunter target) T) (sym (p .is))
+      (method-theorems.open-sound (graph-in-laws f (t .plan) (o .obeys .size)) hunter target (o .hunter-in) (o .target-in)));
   heap = p .heap;
 }
 

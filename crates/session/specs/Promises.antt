@@ -4,7 +4,7 @@ use mathlib.Core.Logic.{_≢_, _↔_}
 use Prim.Native.Nat.{ℕ, _≤_, _<_}
 use lib.ListN.{getD}
 use Rattle.tables.specs.declared.Session.{Session}
-use Rattle.tables.specs.Lent.{Tables, core}
+use Rattle.tables.specs.Lent.{Tables, frame, frameOfSize, framed, core}
 use Rattle.tables.specs.Told.{toldNumber}
 use Rattle.entries.specs.Begin.{begun, Opened}
 use Rattle.session.specs.declared.Reply.{Reply}
@@ -14,14 +14,14 @@ use Rattle.session.specs.Refusals.{toldBy, PlaceRules, OpenRules}
 
 -- The record with the hunter, or the target, placed on a cell: one field changes.
 abbrev pub hunterAt : Session → ℕ → Session
-hunterAt s cell = record { width = s .width; height = s .height; hunter = cell; target = s .target; origin = s .origin; goal = s .goal; km = s .km; count = s .count; searches = s .searches }
+hunterAt s cell = framed (frame s) cell (s .target) (s .origin) (s .goal) (s .km) (s .count) (s .searches)
 
 abbrev pub targetAt : Session → ℕ → Session
-targetAt s cell = record { width = s .width; height = s .height; hunter = s .hunter; target = cell; origin = s .origin; goal = s .goal; km = s .km; count = s .count; searches = s .searches }
+targetAt s cell = framed (frame s) (s .hunter) cell (s .origin) (s .goal) (s .km) (s .count) (s .searches)
 
 -- The record that a refused open returns: "all fields 0".
 abbrev pub nothing : Session
-nothing = record { width = 0; height = 0; hunter = 0; target = 0; origin = 0; goal = 0; km = 0; count = 0; searches = 0 }
+nothing = framed (frameOfSize 0 0) 0 0 0 0 0 0 0
 
 -- ---- place
 
@@ -41,7 +41,7 @@ pub record Opens (width height hunter target : ℕ) (t : Tables) (r : Reply) (t�
   pub rules : OpenRules width height hunter target t number
   pub answer : toldBy (r .answer) ≡ toldNumber number
   pub refused : number ≢ 0 → (r .session ≡ nothing) × (t′ ≡ t)
-  pub done : number ≡ 0 → (r .session ≡ begun width height hunter target) × Opened width height hunter target t t′
+  pub done : number ≡ 0 → (r .session ≡ begun (frameOfSize width height) hunter target) × Opened (frameOfSize width height) hunter target t t′
 
 -- ---- what a statement leaves open
 

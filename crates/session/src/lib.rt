@@ -141,36 +141,14 @@ pub fn open(
         list,
     );
     if number != 0 {
-        let nothing = tables::Session {
-            width: 0,
-            height: 0,
-            hunter: 0,
-            target: 0,
-            origin: 0,
-            goal: 0,
-            km: 0,
-            count: 0,
-            searches: 0,
-        };
+        let nothing = entries::placed_on(0, 0, 0, 0);
         return Reply {
             session: nothing,
             answer: Answer::Refused(number),
         };
     }
-    let begun = entries::begin(
-        width,
-        height,
-        hunter,
-        target,
-        plan,
-        g,
-        rhs,
-        parent,
-        k1,
-        k2,
-        place,
-        list,
-    );
+    let placed = entries::placed_on(width, height, hunter, target);
+    let begun = entries::begin(placed, plan, g, rhs, parent, k1, k2, place, list);
     Reply {
         session: begun,
         answer: Answer::Done,

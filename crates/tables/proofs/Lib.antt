@@ -1,3 +1,4 @@
+pub mod FrameLaws
 pub mod WalkLaws
 pub mod SoundLaws
 pub mod FaultLaws

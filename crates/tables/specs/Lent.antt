@@ -48,6 +48,23 @@ abbrev pub after : Lent2 → Lent2 → Lent2 → Lent2 → Lent2 → Lent2 → L
 after plan g rhs parent k1 k2 place list =
     given (plan .exit) (g .exit) (rhs .exit) (parent .exit) (k1 .exit) (k2 .exit) (place .exit) (list .exit)
 
+-- What open fixes for as long as the session lasts.
+pub record Frame : Type 0 where
+  pub width : ℕ
+  pub height : ℕ
+
+abbrev pub frame : Session → Frame
+frame s = record { width = s .width; height = s .height }
+
+-- What it fixes on a plan of this size.
+abbrev pub frameOfSize : ℕ → ℕ → Frame
+frameOfSize width height = record { width = width; height = height }
+
+-- The record with this frame and these fields. Every other way to write a record goes by this one.
+abbrev pub framed : Frame → (hunter target origin goal km count searches : ℕ) → Session
+framed f hunter target origin goal km count searches =
+    record { width = f .width; height = f .height; hunter = hunter; target = target; origin = origin; goal = goal; km = km; count = count; searches = searches }
+
 -- The number of cells, N.
 abbrev pub cells : Session → ℕ
 cells s = s .height * s .width
@@ -63,12 +80,19 @@ pub record Fits (n : ℕ) (t : Tables) : Type 0 where
   pub place : length (t .place) ≡ n
   pub list : length (t .list) ≡ n
 
+-- The floor plan that a frame makes of bytes, and its graph: nowhere else is a graph built.
+abbrev pub floorIn : Frame → List ℕ → Plan
+floorIn f plan = planOf (f .width) (f .height) plan
+
+abbrev pub graphIn : Frame → List ℕ → Graph
+graphIn f plan = graphOf (floorIn f plan)
+
 -- The floor plan, its graph, the session and the tables as the method has them; who is queued is read off the places.
 abbrev pub floor : Session → List ℕ → Plan
-floor s plan = planOf (s .width) (s .height) plan
+floor s plan = floorIn (frame s) plan
 
 abbrev pub graph : Session → Tables → Graph
-graph s t = graphOf (floor s (t .plan))
+graph s t = graphIn (frame s) (t .plan)
 
 abbrev pub session : Session → method-session.Session
 session s = record {

@@ -1,9 +1,9 @@
 -- Target and hunter taken over, or a fresh start: the code's ways are the method's.
 use mathlib.Core.Path.{_≡_, refl, sym, ap, subst, _∙_}
 use mathlib.Core.Logic.{_≢_}
-use Prim.Native.Nat.{ℕ, _+_, _*_, _<_}
+use Prim.Native.Nat.{ℕ, _+_, _*_, _≤_, _<_}
 use native.Mathlib.Omega.{arith}
-use native.Mathlib.Decide.{ℕ-discrete}
+use native.Mathlib.Decide.{ℕ-discrete, decLe}
 use lib.ListN.{getD, length, set, length-set}
 use Rattle.decide.proofs.ChooseLaws.{choose-yes, choose-no}
 use Rattle.method.specs.Numbers.{infinite, renewal}
@@ -17,7 +17,7 @@ use Rattle.plan.proofs.EstimateLaws.{estimate-le}
 use Rattle.plan.proofs.MoveLaws.{placed}
 use Rattle.tables.specs.declared.Session.{Session}
 use Rattle.queue.specs.Queue.{EntryKept}
-use Rattle.tables.specs.Lent.{Tables, tables, cells, graph, session, core}
+use Rattle.tables.specs.Lent.{Tables, tables, frame, framed, cells, graph, session, core}
 use Rattle.tables.specs.Sound.{Sound}
 use Rattle.tables.proofs.SoundLaws.{sound-fits}
 use Rattle.tables.proofs.WalkLaws.{estimate-at}
@@ -35,15 +35,15 @@ spot-placed z a l = let q = placed z a l in record { row = q .0; column = q .1 }
 -- ---- a fresh start
 
 -- The state of a fresh start at the placed cells is the method's.
-pub begun-holds : {s r : Session} {t t′ : Tables} → (r ≡ begun (s .width) (s .height) (s .hunter) (s .target)) × Opened (s .width) (s .height) (s .hunter) (s .target) t t′
+pub begun-holds : {s r : Session} {t t′ : Tables} → (r ≡ begun (frame s) (s .hunter) (s .target)) × Opened (frame s) (s .hunter) (s .target) t t′
     → Holds s (calls.freshStart (graph s t) (s .hunter) (s .target)) r t′
 begun-holds {s} {r} {t} {t′} (e, O) =
-    subst (λ x. Holds s (calls.freshStart (graph s t) (s .hunter) (s .target)) x t′) (sym e) (record { wide = refl; high = refl; record-is = refl; tables-are = O .is; heap = O .heap })
+    subst (λ x. Holds s (calls.freshStart (graph s t) (s .hunter) (s .target)) x t′) (sym e) (record { frame-is = refl; record-is = refl; tables-are = O .is; heap = O .heap })
 
 -- ---- the target taken over
 
 abbrev kmAt : Session → ℕ → Session
-kmAt s km = record { width = s .width; height = s .height; hunter = s .hunter; target = s .target; origin = s .origin; goal = s .target; km = km; count = s .count; searches = s .searches }
+kmAt s km = framed (frame s) (s .hunter) (s .target) (s .origin) (s .target) km (s .count) (s .searches)
 
 module _ {s : Session} (A : Aiming s) {old new : Spot} (o : At (s .width) (s .goal) old) (n : At (s .width) (s .target) new) where
   estimate-is : between old new ≡ estimate (s .width) (s .goal) (s .target)
@@ -62,7 +62,7 @@ module _ {s : Session} (A : Aiming s) {old new : Spot} (o : At (s .width) (s .go
 
 -- The record with the hunter taken over, and so many cells queued.
 abbrev pub handed : Session → ℕ → Session
-handed s count = record { width = s .width; height = s .height; hunter = s .hunter; target = s .target; origin = s .hunter; goal = s .goal; km = s .km; count = count; searches = s .searches }
+handed s count = framed (frame s) (s .hunter) (s .target) (s .hunter) (s .goal) (s .km) count (s .searches)
 
 abbrev pub orphaned : Session → Tables → Tables
 orphaned s t = tables (t .plan) (t .g) (t .rhs) (set (t .parent) (s .hunter) 0) (t .k1) (t .k2) (t .place) (t .list)
@@ -96,7 +96,7 @@ module _ {s : Session} {t : Tables} {a : Aim} (R : Handing s t) (O : AimOf (hand
   unfolding calls.handedOver
   hand-holds B =
       let b = became-of (λ x. method.foundAnew (hunt x (t .plan)) (core (orphaned s t)) (s .origin)) O B in
-      record { wide = refl; high = refl; record-is = refl; tables-are = b .is; heap = b .heap }
+      record { frame-is = refl; record-is = refl; tables-are = b .is; heap = b .heap }
 
   pub hand-long : {count : ℕ} {t′ : Tables} → Became a count t′ (method.foundAnew (hunt a (t .plan)) (core (orphaned s t)) (s .origin)) → length (t′ .parent) ≡ length (t .parent)
   hand-long B =
@@ -105,8 +105,12 @@ module _ {s : Session} {t : Tables} {a : Aim} (R : Handing s t) (O : AimOf (hand
 
 -- ---- the whole
 
+-- Before the renewal nothing starts fresh for the search number.
+in-time : {n : ℕ} → n < renewal → renewal ≤ n → ⊥
+in-time l m = omega arith
+
 module _ {s : Session} {t : Tables} (S : Sound s t) where
-  pub openable : Openable (s .width) (s .height) (s .hunter) (s .target) t
+  pub openable : Openable (frame s) (s .hunter) (s .target) t
   openable = record { fits = sound-fits S; hunter-in = S .numbers .hunter-in; target-in = S .numbers .target-in; obeys = S .plan }
 
   pub aiming : Aiming s
@@ -128,30 +132,30 @@ module _ {s : Session} {t : Tables} (S : Sound s t) where
       })
 
   module _ {r : Session} {t′ : Tables} where
-    pub taken-late : s .searches ≡ renewal → (r ≡ begun (s .width) (s .height) (s .hunter) (s .target)) × Opened (s .width) (s .height) (s .hunter) (s .target) t t′ → Takes s t r t′
+    pub taken-late : renewal ≤ s .searches → (r ≡ begun (frame s) (s .hunter) (s .target)) × Opened (frame s) (s .hunter) (s .target) t t′ → Takes s t r t′
     unfolding calls.takenOver
-    taken-late e B = record { holds = subst (λ m. Holds s m r t′) (sym (choose-yes (ℕ-discrete (s .searches) renewal) _ _ e)) (begun-holds B); untouched = λ _ n. absurd (n e); kept = λ n _. absurd (n e) }
+    taken-late e B = record { holds = subst (λ m. Holds s m r t′) (sym (choose-yes (decLe renewal (s .searches)) _ _ e)) (begun-holds B); untouched = λ _ l. absurd (omega (arith, l)); kept = λ l _. absurd (omega (arith, l)) }
 
-    module _ (early : s .searches ≢ renewal) where
+    module _ (early : s .searches < renewal) where
       pub taken-same : s .hunter ≡ s .origin → r ≡ aimedAnew s → t′ ≡ t → Takes s t r t′
       unfolding calls.takenOver
       taken-same e er et = record {
         holds =
-            subst (λ m. Holds s m r t′) (sym (choose-no (ℕ-discrete (s .searches) renewal) _ _ early ∙ choose-yes (ℕ-discrete (s .hunter) (s .origin)) _ _ e))
+            subst (λ m. Holds s m r t′) (sym (choose-no (decLe renewal (s .searches)) _ _ (in-time early) ∙ choose-yes (ℕ-discrete (s .hunter) (s .origin)) _ _ e))
             (subst (λ x. Holds s (record { session = calls.targetTaken (graph s t) (session s); tables = core t }) x t′) (sym er)
             (subst (λ x. Holds s (record { session = calls.targetTaken (graph s t) (session s); tables = core t }) (aimedAnew s) x) (sym et)
-            (record { wide = refl; high = refl; record-is = refl; tables-are = refl; heap = S .heap })));
+            (record { frame-is = refl; record-is = refl; tables-are = refl; heap = S .heap })));
         untouched = λ _ _. (ap (λ (x : Session). x .count) er, et);
         kept = λ _ _ _ _ _. (ap (λ (x : Session). x .count) er, ap (λ (x : Tables). x .place) et, ap (λ (x : Tables). x .list) et);
       }
 
-      pub taken-far : s .hunter ≢ s .origin → getD (t .rhs) (s .hunter) 0 ≡ infinite → (r ≡ begun (s .width) (s .height) (s .hunter) (s .target)) × Opened (s .width) (s .height) (s .hunter) (s .target) t t′
+      pub taken-far : s .hunter ≢ s .origin → getD (t .rhs) (s .hunter) 0 ≡ infinite → (r ≡ begun (frame s) (s .hunter) (s .target)) × Opened (frame s) (s .hunter) (s .target) t t′
           → Takes s t r t′
       unfolding calls.takenOver
       taken-far n e B = record {
         holds =
             subst (λ m. Holds s m r t′)
-            (sym (choose-no (ℕ-discrete (s .searches) renewal) _ _ early ∙ choose-no (ℕ-discrete (s .hunter) (s .origin)) _ _ n ∙ choose-yes (ℕ-discrete (getD (t .rhs) (s .hunter) 0) infinite) _ _ e))
+            (sym (choose-no (decLe renewal (s .searches)) _ _ (in-time early) ∙ choose-no (ℕ-discrete (s .hunter) (s .origin)) _ _ n ∙ choose-yes (ℕ-discrete (getD (t .rhs) (s .hunter) 0) infinite) _ _ e))
             (begun-holds B);
         untouched = λ h _. absurd (n h);
         kept = λ _ f. absurd (f e);
@@ -164,8 +168,8 @@ module _ {s : Session} {t : Tables} (S : Sound s t) where
         holds =
             let h = subst (λ x. Holds x (handOver x t) r t′) e H in
             subst (λ m. Holds s m r t′)
-            (sym (choose-no (ℕ-discrete (s .searches) renewal) _ _ early ∙ choose-no (ℕ-discrete (s .hunter) (s .origin)) _ _ n ∙ choose-no (ℕ-discrete (getD (t .rhs) (s .hunter) 0) infinite) _ _ f))
-            (record { wide = h .wide; high = h .high; record-is = h .record-is; tables-are = h .tables-are; heap = h .heap });
+            (sym (choose-no (decLe renewal (s .searches)) _ _ (in-time early) ∙ choose-no (ℕ-discrete (s .hunter) (s .origin)) _ _ n ∙ choose-no (ℕ-discrete (getD (t .rhs) (s .hunter) 0) infinite) _ _ f))
+            (record { frame-is = h .frame-is; record-is = h .record-is; tables-are = h .tables-are; heap = h .heap });
         untouched = λ h _. absurd (n h);
         kept = λ _ _. subst (λ (x : Session). EntryKept (x .count) (t .k1) (t .k2) (t .place) (t .list) (r .count) (t′ .k1) (t′ .k2) (t′ .place) (t′ .list)) e K;
       }

@@ -10,13 +10,12 @@ use Rattle.queue.specs.Queue.{Heap, EntryKept}
 use Rattle.plan.specs.Cells.{Size, estimate}
 use Rattle.plan.specs.Costs.{Obeys}
 use Rattle.tables.specs.declared.Session.{Session}
-use Rattle.tables.specs.Lent.{Tables, cells, floor, graph, session, core}
+use Rattle.tables.specs.Lent.{Tables, frame, framed, cells, floor, graph, session, core}
 use Rattle.entries.specs.Aims.{Small, mostG, mostRhs, mostKm}
 
--- The record and the tables are the method's state m, with a true heap; the size is as it was.
+-- The record and the tables are the method's state m, with a true heap; what open fixed is as it was.
 pub record Holds (s : Session) (m : State) (r : Session) (t : Tables) : Type 0 where
-  pub wide : r .width ≡ s .width
-  pub high : r .height ≡ s .height
+  pub frame-is : frame r ≡ frame s
   pub record-is : session r ≡ m .session
   pub tables-are : core t ≡ m .tables
   pub heap : Heap (s .width) (cells s) (r .count) (t .k1) (t .k2) (t .place) (t .list)
@@ -25,8 +24,8 @@ pub record Holds (s : Session) (m : State) (r : Session) (t : Tables) : Type 0 w
 -- where a hunter with a finite rhs is taken over and the old hunter's entry, found anew, is what it was, list and places stay.
 pub record Takes (s : Session) (t : Tables) (r : Session) (t′ : Tables) : Type 0 where
   pub holds : Holds s (takenOver (graph s t) (session s) (core t)) r t′
-  pub untouched : s .hunter ≡ s .origin → s .searches ≢ renewal → (r .count ≡ s .count) × (t′ ≡ t)
-  pub kept : s .searches ≢ renewal → getD (t .rhs) (s .hunter) 0 ≢ infinite
+  pub untouched : s .hunter ≡ s .origin → s .searches < renewal → (r .count ≡ s .count) × (t′ ≡ t)
+  pub kept : s .searches < renewal → getD (t .rhs) (s .hunter) 0 ≢ infinite
       → EntryKept (s .count) (t .k1) (t .k2) (t .place) (t .list) (r .count) (t′ .k1) (t′ .k2) (t′ .place) (t′ .list)
 
 -- The target can be taken over: both targets are in the plan, and km leaves room for one more estimate.
@@ -38,17 +37,7 @@ pub record Aiming (s : Session) : Type 0 where
 
 -- The record with the target taken over.
 abbrev pub aimedAnew : Session → Session
-aimedAnew s = record {
-  width = s .width;
-  height = s .height;
-  hunter = s .hunter;
-  target = s .target;
-  origin = s .origin;
-  goal = s .target;
-  km = s .km + estimate (s .width) (s .goal) (s .target);
-  count = s .count;
-  searches = s .searches;
-}
+aimedAnew s = framed (frame s) (s .hunter) (s .target) (s .origin) (s .target) (s .km + estimate (s .width) (s .goal) (s .target)) (s .count) (s .searches)
 
 -- The hunter can be taken over.
 pub record Handing (s : Session) (t : Tables) : Type 0 where

@@ -9,7 +9,7 @@ ghost use Rattle.tables.specs.Lent.{given, before, after};
 ghost use Rattle.tables.specs.Sound.{Sound};
 ghost use Rattle.take_over.specs.TakeOver.{aimedAnew, handOver, Aiming, Handing, Holds, Takes};
 
-// The search number at which a search starts fresh, so that no number grows without end.
+// The search number from which on a search starts fresh, so that no number grows without end.
 const RENEWAL: u32 = 1000;
 
 // The target taken over: km grows by the estimate between old and new target.
@@ -79,21 +79,8 @@ pub fn take_over(
     requires { ⌜ Sound s (given plan g rhs parent k1 k2 place list) ⌝ }
     ensures { λ r. ⌜ Takes s (before plan g rhs parent k1 k2 place list) r (after plan g rhs parent k1 k2 place list) ⌝ }
 {
-    if s.searches == RENEWAL {
-        return entries::begin(
-            s.width,
-            s.height,
-            s.hunter,
-            s.target,
-            plan,
-            g,
-            rhs,
-            parent,
-            k1,
-            k2,
-            place,
-            list,
-        );
+    if RENEWAL <= s.searches {
+        return entries::begin(s, plan, g, rhs, parent, k1, k2, place, list);
     }
     let t = target_taken(s);
     let h = s.hunter;
@@ -101,20 +88,7 @@ pub fn take_over(
         return t;
     }
     if rhs[h] == tables::INFINITE {
-        return entries::begin(
-            s.width,
-            s.height,
-            s.hunter,
-            s.target,
-            plan,
-            g,
-            rhs,
-            parent,
-            k1,
-            k2,
-            place,
-            list,
-        );
+        return entries::begin(s, plan, g, rhs, parent, k1, k2, place, list);
     }
     hand_over(t, plan, g, rhs, parent, k1, k2, place, list)
 }

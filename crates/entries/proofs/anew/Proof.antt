@@ -4,18 +4,18 @@ use Prim.Native.Nat.{_≤_, _-_}
 use native.Mathlib.Omega.{arith}
 use Rattle.method.specs.Numbers.{infinite}
 use Rattle.method.specs.Tables.{found, leastOver, anew}
-use Rattle.plan.specs.Costs.{planOf}
 use Rattle.plan.specs.Grid.{intoBy, upTo}
+use Rattle.entries.specs.Aims.{floor}
 use Rattle.entries.specs.Became.{foundOf}
 use Rattle.entries.proofs.AnewLaws.{looked-more, looked-all}
 use Rattle.entries.proofs.anew.Statement.{statement}
 use Rattle.entries.proofs.anew.Tie as tie
 
 abbrev Inv-loop : tie.InvT-loop
-Inv-loop width height plan g s best₀ d₀ best d = (d ≤ 4) × (foundOf best ≡ leastOver g (found infinite 0) (upTo (intoBy (planOf width height plan) s) d))
+Inv-loop a plan g s best₀ d₀ best d = (d ≤ 4) × (foundOf best ≡ leastOver g (found infinite 0) (upTo (intoBy (floor a plan) s) d))
 
 abbrev μ-loop : tie.MeasureT-loop
-μ-loop width height plan g s best₀ d₀ best d = 4 - d
+μ-loop a plan g s best₀ d₀ best d = 4 - d
 
 loop-holds : tie.Need-loop-holds Inv-loop μ-loop
 unfolding upTo leastOver

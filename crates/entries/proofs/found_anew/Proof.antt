@@ -19,8 +19,8 @@ anew-requires c κs = let p = c .before .before .before .before .before .before 
 
 take-requires : tie.Need-take-requires
 take-requires c κs =
-    let p = at-start (after-anew-for-take c) .pre in
-    taking p (found-small (findable (p .ready) (p .inside)) (after-anew-for-take c .anew .ensures))
+    let x = at-start (after-anew-for-take c) in
+    taking (x .pre) (found-small (x .args .a) (findable (x .pre .ready) (x .pre .inside)) (after-anew-for-take c .anew .ensures))
 
 same-length : tie.Need-same-length
 same-length c = search needs

@@ -2,7 +2,7 @@
 use mathlib.Core.Path.{refl, _∙_}
 use native.Mathlib.Omega.{arith}
 use Rattle.plan.proofs.MoveLaws.{area}
-use Rattle.search.proofs.SearchLaws.{searched-caught, run-aimed, run-started, few-searches, answering, searched}
+use Rattle.search.proofs.SearchLaws.{searched-caught, wide-after, run-aimed, run-started, few-searches, answering, searched}
 use borrow.Author.Needs.{needs}
 use Rattle.search.proofs.search_sound.Statement.{statement}
 use Rattle.search.proofs.search_sound.Tie as tie
@@ -17,9 +17,11 @@ at-start-for-returns c = at-start-from-struct-known (c .before .before)
 abbrev apart : tie.After-take-over → tie.Else1
 apart c = c .before .before .before .before .before .before .before .before
 
+abbrev after-take-over-for-aim-of : tie.After-slice-known15 → tie.After-take-over
+after-take-over-for-aim-of c = c .before .before .before .before .before .before .before .before .before .before .before .before .before .before
+
 abbrev after-take-over-from-aim-of : tie.After-aim-of → tie.After-take-over
-after-take-over-from-aim-of c =
-    c .before .before .before .before .before .before .before .before .before .before .before .before .before .before .before
+after-take-over-from-aim-of c = after-take-over-for-aim-of (c .before)
 
 abbrev at-start-from-aim-of : tie.After-aim-of → tie.Start
 at-start-from-aim-of c = at-start-from-struct-known (apart (after-take-over-from-aim-of c) .before)
@@ -73,7 +75,9 @@ take-over-requires : tie.Need-take-over-requires
 take-over-requires c κs = search needs
 
 aim-of-requires : tie.Need-aim-of-requires
-aim-of-requires c κs = search needs
+aim-of-requires c κs =
+    let t = after-take-over-for-aim-of c in
+    wide-after (at-start-from-struct-known (apart t .before) .pre .0) (t .take-over .ensures .holds)
 
 mul-limit : tie.Need-mul-limit
 mul-limit c = omega (arith, area (at-start-from-aim-of (c .before) .pre .0 .plan .size))

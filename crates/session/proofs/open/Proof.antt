@@ -1,22 +1,26 @@
 -- Refused with the number that `open_refusal` found and nothing changed; else a fresh start can be made (`open-granted` in RefusalLaws), which `begin` makes.
 use mathlib.Core.Path.{refl}
+use Rattle.entries.proofs.BeginLaws.{openable-on, opened-on}
 use Rattle.session.proofs.RefusalLaws.{refusal-told, done-told, open-granted}
 use borrow.Author.Needs.{needs}
 use Rattle.session.proofs.open.Statement.{statement}
 use Rattle.session.proofs.open.Tie as tie
 
 -- The places that the answers look back to.
-abbrev granted-for-begin : tie.After-begin-arg7 → tie.Else1
-granted-for-begin c = c .before .before .before .before .before .before .before
+abbrev after-placed-on-for-begin : tie.After-begin-arg7 → tie.After-placed-on2
+after-placed-on-for-begin c = c .before .before .before .before .before .before .before
 
 abbrev after-begin : tie.After-slice-known14 → tie.After-begin
 after-begin c = c .before .before .before .before .before .before .before .before .before .before .before .before .before .before
 
-abbrev granted : tie.After-slice-known14 → tie.Else1
-granted c = granted-for-begin (after-begin c .before)
+abbrev after-placed-on : tie.After-slice-known14 → tie.After-placed-on2
+after-placed-on c = after-placed-on-for-begin (after-begin c .before)
 
 open-refusal-requires : tie.Need-open-refusal-requires
 open-refusal-requires c κs = search needs
+
+placed-on-requires : tie.Need-placed-on-requires
+placed-on-requires c κs = search needs
 
 same-length : tie.Need-same-length
 same-length c = search needs
@@ -41,15 +45,20 @@ same-length-7 c = search needs
 
 returns : tie.Need-returns
 returns c = record {
-  number = c .before .open-refusal .result;
-  rules = c .before .open-refusal .ensures;
-  answer = refusal-told _ (c .if1 .taken);
-  refused = λ _. (refl, refl);
-  done = λ z. absurd (c .if1 .taken z);
+  number = c .before .before .open-refusal .result;
+  rules = c .before .before .open-refusal .ensures;
+  answer = refusal-told _ (c .before .if1 .taken);
+  refused = λ _. (c .placed-on .ensures, refl);
+  done = λ z. absurd (c .before .if1 .taken z);
 }
 
+placed-on-requires-2 : tie.Need-placed-on-requires-2
+placed-on-requires-2 c κs = search needs
+
 begin-requires : tie.Need-begin-requires
-begin-requires c κs = open-granted (granted-for-begin c .before .open-refusal .ensures) (granted-for-begin c .if1 .left)
+begin-requires c κs =
+    let p = after-placed-on-for-begin c in
+    openable-on (p .placed-on2 .ensures) (open-granted (p .before .before .open-refusal .ensures) (p .before .if1 .left))
 
 same-length-8 : tie.Need-same-length-8
 same-length-8 c = search needs
@@ -74,15 +83,23 @@ same-length-14 c = search needs
 
 returns-2 : tie.Need-returns-2
 returns-2 c =
-    let r = granted c .before .open-refusal in
-    let z = granted c .if1 .left in
-    record { number = r .result; rules = r .ensures; answer = done-told _ z; refused = λ n. absurd (n z); done = λ _. after-begin c .begin .ensures }
+    let p = after-placed-on c in
+    let r = p .before .before .open-refusal in
+    let z = p .before .if1 .left in
+    record {
+      number = r .result;
+      rules = r .ensures;
+      answer = done-told _ z;
+      refused = λ n. absurd (n z);
+      done = λ _. opened-on (p .placed-on2 .ensures) (after-begin c .begin .ensures);
+    }
 
 pub open-spec : {M : Type 1} → statement M
 open-spec =
     tie.close
     (tie.spec
     open-refusal-requires
+    placed-on-requires
     same-length
     same-length-2
     same-length-3
@@ -91,6 +108,7 @@ open-spec =
     same-length-6
     same-length-7
     returns
+    placed-on-requires-2
     begin-requires
     same-length-8
     same-length-9

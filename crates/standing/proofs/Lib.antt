@@ -1,0 +1,2 @@
+-- Each public call leaves what the definitions say.
+pub mod StandingLaws

@@ -1,0 +1,1 @@
+// What stands between two calls; the definitions are in specs, the laws in proofs.
