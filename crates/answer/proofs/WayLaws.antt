@@ -2,68 +2,49 @@
 use mathlib.Core.Path.{_≡_, refl, sym, ap, subst, _∙_}
 use mathlib.Core.Logic.{_≢_}
 use mathlib.Core.List.{List, [], _∷_, _++_, append-assoc, append-nil}
-use Prim.Native.Nat.{ℕ, zero, suc, _+_, _-_, _*_, _≤_, _<_}
+use Prim.Native.Nat.{ℕ, zero, suc, _+_, _-_, _≤_, _<_}
 use native.Mathlib.Omega.{arith}
 use lib.ListN.{length, getD, set, take, drop, length-append, length-set, take-append-drop}
 use Rattle.method.proofs.Answers as method
-use Rattle.plan.specs.Cells.{Size, Stays, entered}
-use Rattle.plan.specs.Directions.{rowStep, columnStep}
-use Rattle.plan.proofs.CellLaws.{entered-sum, enters}
-use Rattle.plan.proofs.MoveLaws as moves
-use Rattle.plan.proofs.GridLaws.{into-is}
+use Rattle.plan.specs.Cells.{Size}
 use Rattle.entries.specs.declared.Aim.{Aim}
-use Rattle.entries.specs.Aims.{area, floor, hunt}
-use Rattle.answer.specs.Way.{Leads, home, link, parentOf, Linked, Followed, Leading, Counts, Shows}
+use Rattle.entries.specs.Aims.{area, hunt}
+use Rattle.entries.specs.Parents.{Named, Linked}
+use Rattle.entries.proofs.ParentLaws.{named-one, named-in, comes-named}
+use Rattle.answer.specs.Way.{Leads, home, link, Followed, Leading, Counts, Shows}
 
 -- ---- where the parents lead
 
--- A trail of the method is one of parent bytes: an open move into a cell has its direction plus 1 as its code.
+-- A trail of the method is one of parent bytes: an open move into a cell comes from the cell that its code names.
 pub trail-leads : {a : Aim} {parent : List ℕ} (plan : List ℕ) → Size (a .width) (a .height) → {s : ℕ} {l : List ℕ} → method.Trail (hunt a plan) parent s l → Leads a parent s l
 trail-leads plan z method.home = home
-trail-leads {a} {parent} plan z (method.link {s} {w} {c} {l} n m t) =
-    let o = into-is (floor a plan) (z .wide) s (getD parent s 0) w c m in
-    link n (o .small) (o .named) (o .stays-in) (subst (λ x. Leads a parent x l) (o .from) (trail-leads plan z t))
+trail-leads plan z (method.link n m t) = link n (comes-named plan z m) (trail-leads plan z t)
 
 -- At the hunter the list ends.
 leads-home : {a : Aim} {parent : List ℕ} {s : ℕ} {l : List ℕ} → s ≡ a .hunter → Leads a parent s l → l ≡ a .hunter ∷ []
 leads-home e home = refl
-leads-home e (link n d b m r) = absurd (n e)
+leads-home e (link n m r) = absurd (n e)
 
 -- At another cell s it has the list from the parent of s, and then s.
 record Onward (a : Aim) (parent : List ℕ) (s : ℕ) (l : List ℕ) : Type 0 where
-  named : 1 ≤ getD parent s 0
-  small : getD parent s 0 ≤ 4
-  stays : Stays (a .width) (a .height) s (getD parent s 0 - 1)
+  cell : ℕ
+  named : Named a s (getD parent s 0) cell
   before : List ℕ
-  rest : Leads a parent (parentOf a parent s) before
+  rest : Leads a parent cell before
   is : l ≡ before ++ (s ∷ [])
-
-less-one : {b d : ℕ} → b ≡ d + 1 → d ≡ b - 1
-less-one e = omega arith
 
 onward : {a : Aim} {parent : List ℕ} {s : ℕ} {l : List ℕ} → s ≢ a .hunter → Leads a parent s l → Onward a parent s l
 onward n home = absurd (n refl)
-onward {a} {parent} n (link {s} {d} {l} n′ ld e m r) = record {
-  named = omega (arith, e);
-  small = omega (arith, e);
-  stays = subst (Stays (a .width) (a .height) s) (less-one e) m;
-  before = l;
-  rest = subst (λ x. Leads a parent (entered (a .width) s x) l) (less-one e) r;
-  is = refl;
-}
+onward n (link {s} {w} {l} n′ m r) = record { cell = w; named = m; before = l; rest = r; is = refl }
+
+-- The rest is the list from whichever cell the parent byte names.
+rest-from : {a : Aim} {parent : List ℕ} {s w : ℕ} {l : List ℕ} (o : Onward a parent s l) → Named a s (getD parent s 0) w → Leads a parent w (o .before)
+rest-from {a} {parent} o m = subst (λ x. Leads a parent x (o .before)) (named-one (o .named) m) (o .rest)
 
 -- There is one list.
 pub leads-unique : {a : Aim} {parent : List ℕ} {s : ℕ} {l l′ : List ℕ} → Leads a parent s l → Leads a parent s l′ → l ≡ l′
 leads-unique home k = sym (leads-home refl k)
-leads-unique {a} {parent} (link {s} {d} {l} n ld e m r) k =
-    let o = onward n k in
-    ap (λ (x : List ℕ). x ++ (s ∷ [])) (leads-unique r (subst (λ x. Leads a parent (entered (a .width) s x) (o .before)) (sym (less-one e)) (o .rest))) ∙ sym (o .is)
-
--- The cell that a parent byte names can be computed.
-pub linked-asks : {a : Aim} {parent : List ℕ} {s : ℕ} → Linked a parent s
-    → (getD parent s 0 - 1 < 4) × ((a .width ≤ 64) × (s < 4096) × (a .width + 1 ≤ s + rowStep (getD parent s 0 - 1) * a .width + columnStep (getD parent s 0 - 1)))
-linked-asks {a} {parent} {s} L =
-    (omega (arith, L .small), (L .size .narrow, omega (arith, L .stays .from-in, moves.area (L .size)), omega (arith, entered-sum (a .width) s (getD parent s 0 - 1) (L .size .wide) (L .stays .north) (L .stays .west))))
+leads-unique (link {s} n m r) k = let o = onward n k in ap (λ (x : List ℕ). x ++ (s ∷ [])) (leads-unique r (rest-from o m)) ∙ sym (o .is)
 
 -- ---- how many cells there are
 
@@ -73,7 +54,7 @@ onward-long {s = s} o = ap length (o .is) ∙ length-append (o .before) (s ∷ [
 
 pub leads-long : {a : Aim} {parent : List ℕ} {s : ℕ} {l : List ℕ} → Leads a parent s l → 1 ≤ length l
 leads-long home = omega arith
-leads-long (link {s} {d} {l} n ld e m r) = omega (arith, length-append l (s ∷ []))
+leads-long (link {s} {w} {l} n m r) = omega (arith, length-append l (s ∷ []))
 
 -- n cells are counted from the target to s, which is a cell of the plan; `left` are those from s on, s among them.
 pub record Passing (a : Aim) (parent : List ℕ) (n s : ℕ) : Type 0 where
@@ -91,21 +72,19 @@ passing-first F = record {
 }
 
 -- Where the list does not end, the parent byte names a cell.
-pub linked : {a : Aim} {parent : List ℕ} {s : ℕ} {l : List ℕ} → Followed a parent → Leads a parent s l → s ≢ a .hunter → Linked a parent s
-linked F k n = let o = onward n k in record { size = F .size; long-parent = F .long-parent; named = o .named; small = o .small; stays = o .stays }
+pub linked : {a : Aim} {parent : List ℕ} {s : ℕ} {l : List ℕ} → Followed a parent → s < area a → Leads a parent s l → s ≢ a .hunter → Linked a parent s
+linked F i k n = let o = onward n k in record { size = F .size; long-parent = F .long-parent; inside = i; cell = o .cell; named = o .named }
 
 pub passing-few : {a : Aim} {parent : List ℕ} {n s : ℕ} → Followed a parent → Passing a parent n s → s ≢ a .hunter → n < area a
 passing-few F P n = let o = onward n (P .leads) in omega (arith, P .sum (F .cells) (F .leads), F .few, onward-long o, leads-long (o .rest))
 
-pub passing-more : {a : Aim} {parent : List ℕ} {n s r : ℕ} → Followed a parent → Passing a parent n s → s ≢ a .hunter → r ≡ parentOf a parent s → Passing a parent (n + 1) r
-passing-more {a} {parent} {n} {s} {r} F P ne e =
-    subst (Passing a parent (n + 1)) (sym e)
-    (record {
-      inside = enters (F .size .wide) (o .stays) .inside;
-      left = o .before;
-      leads = o .rest;
-      sum = λ l k. omega (arith, P .sum l k, onward-long o);
-    })
+pub passing-more : {a : Aim} {parent : List ℕ} {n s w : ℕ} → Followed a parent → Passing a parent n s → s ≢ a .hunter → Named a s (getD parent s 0) w → Passing a parent (n + 1) w
+passing-more {a} {parent} {s = s} F P ne m = record {
+  inside = named-in (F .size) m;
+  left = o .before;
+  leads = rest-from o m;
+  sum = λ l k. omega (arith, P .sum l k, onward-long o);
+}
   where
     o : Onward a parent s (P .left)
     o = onward ne (P .leads)
@@ -164,19 +143,17 @@ module _ {a : Aim} {parent w way : List ℕ} {count i s : ℕ} (G : Leading a pa
   stored : set way i s ≡ take i w ++ (s ∷ (W .behind ++ drop count w))
   stored = ap (λ (x : List ℕ). set x i s) (W .is) ∙ store w (W .behind ++ drop count w) i s writing-room
 
-  pub writing-more : {r : ℕ} → 0 < i → r ≡ parentOf a parent s → Writing a parent w count (i - 1) r (set way i s)
-  writing-more {r} p e =
-      subst (λ x. Writing a parent w count (i - 1) x (set way i s)) (sym e)
-      (record {
-        inside = enters (G .followed .size .wide) (o .stays) .inside;
-        left = o .before;
-        leads = o .rest;
-        place = omega (arith, W .place, onward-long o);
-        behind = s ∷ W .behind;
-        whole = λ l k. W .whole l k ∙ ap (λ (x : List ℕ). x ++ W .behind) (o .is) ∙ append-assoc (o .before) (s ∷ []) (W .behind);
-        same = length-set way i s ∙ W .same;
-        is = stored ∙ ap (λ k. take k w ++ (s ∷ (W .behind ++ drop count w))) again;
-      })
+  pub writing-more : {v : ℕ} → 0 < i → Named a s (getD parent s 0) v → Writing a parent w count (i - 1) v (set way i s)
+  writing-more p m = record {
+    inside = named-in (G .followed .size) m;
+    left = o .before;
+    leads = rest-from o m;
+    place = omega (arith, W .place, onward-long o);
+    behind = s ∷ W .behind;
+    whole = λ l k. W .whole l k ∙ ap (λ (x : List ℕ). x ++ W .behind) (o .is) ∙ append-assoc (o .before) (s ∷ []) (W .behind);
+    same = length-set way i s ∙ W .same;
+    is = stored ∙ ap (λ k. take k w ++ (s ∷ (W .behind ++ drop count w))) again;
+  }
     where
       o : Onward a parent s (W .left)
       o = onward (writing-apart p) (W .leads)
@@ -187,7 +164,7 @@ module _ {a : Aim} {parent w way : List ℕ} {count i s : ℕ} (G : Leading a pa
 -- The list of one cell is that cell, the hunter.
 leads-one : {a : Aim} {parent : List ℕ} {s : ℕ} {l : List ℕ} → Leads a parent s l → length l ≡ 1 → l ≡ s ∷ []
 leads-one home e = refl
-leads-one (link {s} {d} {l} n ld b m r) e = absurd (omega (arith, length-append l (s ∷ []), leads-long r))
+leads-one (link {s} {w} {l} n m r) e = absurd (omega (arith, length-append l (s ∷ []), leads-long r))
 
 pub writing-all : {a : Aim} {parent w way : List ℕ} {count i s : ℕ} → Leading a parent w → Counts a parent count → i ≤ 0 → Writing a parent w count i s way
     → Shows a parent w count (set way 0 s)

@@ -2,29 +2,17 @@
 use mathlib.Core.Path.{_≡_}
 use mathlib.Core.Logic.{_≢_}
 use mathlib.Core.List.{List, [], _∷_, _++_}
-use Prim.Native.Nat.{ℕ, _+_, _-_, _≤_, _<_}
+use Prim.Native.Nat.{ℕ, _≤_, _<_}
 use lib.ListN.{getD, length, drop}
-use Rattle.plan.specs.Cells.{Size, Stays, entered}
+use Rattle.plan.specs.Cells.{Size}
 use Rattle.entries.specs.declared.Aim.{Aim}
 use Rattle.entries.specs.Aims.{area}
+use Rattle.entries.specs.Parents.{Named}
 
--- The parent bytes lead from cell s back to the hunter over the cells of l, hunter first. "Parent byte: direction to the parent plus 1."
+-- The parent bytes lead from cell s back to the hunter over the cells of l, hunter first: "the cells from parent to parent".
 pub data Leads (a : Aim) (parent : List ℕ) : ℕ → List ℕ → Type 0 where
   home : Leads a parent (a .hunter) (a .hunter ∷ [])
-  link : {s d : ℕ} {l : List ℕ} → s ≢ a .hunter → d < 4 → getD parent s 0 ≡ d + 1 → Stays (a .width) (a .height) s d
-      → Leads a parent (entered (a .width) s d) l → Leads a parent s (l ++ (s ∷ []))
-
--- The cell that the parent byte of s names.
-abbrev pub parentOf : Aim → List ℕ → ℕ → ℕ
-parentOf a parent s = entered (a .width) s (getD parent s 0 - 1)
-
--- It names one: a neighbour in the plan.
-pub record Linked (a : Aim) (parent : List ℕ) (s : ℕ) : Type 0 where
-  pub size : Size (a .width) (a .height)
-  pub long-parent : length parent ≡ area a
-  pub named : 1 ≤ getD parent s 0
-  pub small : getD parent s 0 ≤ 4
-  pub stays : Stays (a .width) (a .height) s (getD parent s 0 - 1)
+  link : {s w : ℕ} {l : List ℕ} → s ≢ a .hunter → Named a s (getD parent s 0) w → Leads a parent w l → Leads a parent s (l ++ (s ∷ []))
 
 -- The parents lead from the target to the hunter, over at most as many cells as the plan has.
 pub record Followed (a : Aim) (parent : List ℕ) : Type 0 where

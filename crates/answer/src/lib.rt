@@ -1,9 +1,8 @@
 // What a search answers: caught, none, or the way, whose cells from parent to parent are written hunter first into a lent list.
+use entries;
 use entries::Aim;
-use plan;
 use tables;
-ghost use mathlib.Core.Path.{_≡_};
-ghost use Rattle.answer.specs.Way.{parentOf, Linked, Followed, Leading, Counts, Shows};
+ghost use Rattle.answer.specs.Way.{Followed, Leading, Counts, Shows};
 ghost use Rattle.answer.specs.Answer.{toldBy, Answering, Answers};
 
 // Caught at a cell; no way, after so many steps; a way: its cost, the steps, the number of its cells; or refused with document 01's number.
@@ -14,14 +13,6 @@ pub enum Answer {
     Refused(u8),
 }
 
-// The cell that a parent byte names: its direction plus 1.
-fn parent_of(a: Aim, parent: &[u8], s: usize) -> usize
-    requires { ⌜ Linked a (now parent) s ⌝ }
-    ensures { λ r. ⌜ r ≡ parentOf a (now (parent .entry)) s ⌝ }
-{
-    plan::entered(a.width, s, parent[s] as usize - 1)
-}
-
 // How many cells the parents pass from the target to the hunter.
 fn passed(a: Aim, parent: &[u8]) -> usize
     requires { ⌜ Followed a (now parent) ⌝ }
@@ -30,7 +21,7 @@ fn passed(a: Aim, parent: &[u8]) -> usize
     let mut n = 1usize;
     let mut s = a.target;
     while s != a.hunter {
-        s = parent_of(a, parent, s);
+        s = entries::parent_of(a, parent, s);
         n += 1;
     }
     n
@@ -46,7 +37,7 @@ fn write_way(a: Aim, parent: &[u8], way: &mut [u16]) -> usize
     let mut s = a.target;
     while 0 < i {
         way[i] = s as u16;
-        s = parent_of(a, parent, s);
+        s = entries::parent_of(a, parent, s);
         i -= 1;
     }
     way[0] = s as u16;

@@ -5,3 +5,4 @@ pub mod FreshLaws
 pub mod SmallLaws
 pub mod AimLaws
 pub mod BeginLaws
+pub mod ParentLaws

@@ -1,4 +1,4 @@
-// A cell's queue entry set right, its rhs and parent found anew, and the fresh start: record and tables.
+// A cell's queue entry set right, its rhs and parent found anew, the fresh start (record and tables), and the cell that a parent byte names.
 use plan;
 use plan::Reach;
 use plan::Spot;
@@ -7,7 +7,7 @@ use tables;
 use tables::Session;
 ghost use mathlib.Core.Path.{_≡_};
 ghost use Prim.Native.Nat.{_+_, _<_, _≤_};
-ghost use lib.ListN.{length, replicate};
+ghost use lib.ListN.{getD, length, replicate};
 ghost use Rattle.method.specs.Numbers.{infinite};
 ghost use Rattle.method.specs.Tables.{leastOver, anew as anewOf, foundAnew};
 ghost use Rattle.method.specs.Session.{fresh as freshOf};
@@ -19,6 +19,7 @@ ghost use Rattle.tables.specs.Lent.{given, before, after, frame, frameOfSize, F
 ghost use Rattle.entries.specs.Aims.{area, frameOf, hunt, AimOf, Aimed, mostRhs, Findable, ReadyAt};
 ghost use Rattle.entries.specs.Begin.{Openable, placedOn, begun, Opened};
 ghost use Rattle.entries.specs.Became.{Became, Entering, Entered, Taking, Taken, foundOf};
+ghost use Rattle.entries.specs.Parents.{Named, Linked};
 
 // What a search goes by: the plan's size, the hunter and the target taken over, the target's row and column, and km.
 pub struct Aim {
@@ -299,4 +300,12 @@ pub fn begin(
     let a = aim_of(session);
     session.count = fresh(a, plan, g, rhs, parent, k1, k2, place, list);
     session
+}
+
+// The cell that the parent byte of s names: the byte is the direction there plus 1.
+pub fn parent_of(a: Aim, parent: &[u8], s: usize) -> usize
+    requires { ⌜ Linked a (now parent) s ⌝ }
+    ensures { λ r. ⌜ Named a s (getD (now (parent .entry)) s 0) r ⌝ }
+{
+    plan::entered(a.width, s, parent[s] as usize - 1)
 }

@@ -21,7 +21,7 @@ loop-holds : tie.Need-loop-holds Inv-loop μ-loop
 loop-holds c = passing-first (c .before .pre)
 
 parent-of-requires : tie.Need-parent-of-requires Inv-loop μ-loop
-parent-of-requires c κs = linked (c .before .before .before .before .pre) (c .before .before .loop .inv .leads) (c .if1 .taken)
+parent-of-requires c κs = linked (c .before .before .before .before .pre) (c .before .before .loop .inv .inside) (c .before .before .loop .inv .leads) (c .if1 .taken)
 
 add-n : tie.Need-add-n Inv-loop μ-loop
 add-n c =

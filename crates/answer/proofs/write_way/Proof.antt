@@ -38,6 +38,7 @@ parent-of-requires : tie.Need-parent-of-requires Inv-loop μ-loop
 parent-of-requires c κs =
     linked
     (at-start (c .before) .pre .followed)
+    (c .before .loop .inv .inside)
     (c .before .loop .inv .leads)
     (writing-apart (at-start (c .before) .pre) (c .before .loop .inv) (omega (arith, c .loop-test .taken)))
 
