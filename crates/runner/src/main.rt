@@ -1,6 +1,8 @@
 // The drill runner: reads one drill file and prints a line for each search. What it hands to each write is the next piece of the output of what it read; only that the bytes cross is outside.
 use drill_file;
 use drill_file::Trailer;
+use input;
+use input::Got;
 use libc::STDIN_FILENO;
 use opening;
 use plan::SHUT;
@@ -108,23 +110,14 @@ fn run_file(
     );
 }
 
-// Was the input read to its end? A read that fails looks like the end to read_full, so one more read has to find the end too.
-fn is_read(fd: i32, got: usize) -> bool {
-    if got == 65537 {
-        return true;
-    }
-    let mut more = [0u8; 1];
-    libc::read(fd, &mut more) == 0
-}
-
 // Reads a drill file, of which 65,537 bytes tell that it is too long, and runs it.
 fn run_input(fd: i32, name: &[u8]) {
     let mut input = [0u8; 65537];
-    let got = io::read_full(fd, &mut input);
-    if !is_read(fd, got) {
+    let read = input::read_whole(fd, &mut input);
+    let Got::Bytes(got) = read else {
         os::fail(name);
         return;
-    }
+    };
     let mut count = [0usize; 1];
     let mut plan = [SHUT; 16384];
     let mut g = [INFINITE; 4096];

@@ -1,0 +1,2 @@
+-- What reading an input promises.
+pub mod Promise
