@@ -7,13 +7,14 @@ use lib.ListN.{getD, length}
 use Rattle.method.specs.Numbers.{infinite, mostCost}
 use Rattle.method.specs.Graph.{Hunt}
 use Rattle.method.specs.Tables.{Sized}
+use Rattle.method.specs.Session as method-session
 use Rattle.queue.specs.Queue.{Heap}
 use Rattle.plan.specs.Cells.{Stands}
 use Rattle.plan.specs.Costs.{Plan, planOf, Obeys}
 use Rattle.plan.specs.Reached.{At}
 use Rattle.plan.specs.declared.Spot.{Spot}
 use Rattle.tables.specs.declared.Session.{Session}
-use Rattle.tables.specs.Lent.{Tables, Frame, frameOfSize, floorIn, graphIn, core}
+use Rattle.tables.specs.Lent.{Tables, Frame, frame, frameOfSize, floorIn, graphIn, session, core}
 use Rattle.entries.specs.declared.Aim.{Aim}
 
 -- The number of cells.
@@ -31,10 +32,13 @@ floor a plan = floorIn (frameOf a) plan
 abbrev pub hunt : Aim → List ℕ → Hunt
 hunt a plan = record { graph = graphIn (frameOf a) plan; hunter = a .hunter; target = a .target; km = a .km }
 
--- What the last search taken over goes by, with its target's row and column.
+-- What the last search taken over goes by, in this frame and the method's session σ, with its target's row and column.
+abbrev pub aimBy : Frame → method-session.Session → ℕ → ℕ → Aim
+aimBy f σ row column = record { width = f .width; height = f .height; hunter = σ .origin; target = σ .goal; row = row; column = column; km = σ .km }
+
+-- So of a session's record.
 abbrev pub aimOf : Session → ℕ → ℕ → Aim
-aimOf s row column =
-    record { width = s .width; height = s .height; hunter = s .origin; target = s .goal; row = row; column = column; km = s .km }
+aimOf s row column = aimBy (frame s) (session s) row column
 
 -- The aim a is that, its target's row and column found.
 pub record AimOf (s : Session) (a : Aim) : Type 0 where

@@ -21,12 +21,12 @@ use Rattle.method.proofs.Searching.{huntTaken, boundTaken, runTaken, during-sta
 use Rattle.queue.specs.Queue.{members}
 use Rattle.plan.proofs.MoveLaws.{area}
 use Rattle.tables.specs.declared.Session.{Session}
-use Rattle.tables.specs.Lent.{Tables, Frame, tables, frame, framed, cells, graph, session, core}
+use Rattle.tables.specs.Lent.{Tables, tables, frame, framed, cells, graph, session, core}
 use Rattle.tables.specs.Sound.{Sound}
 use Rattle.tables.specs.Told.{Told, toldWay}
 use Rattle.tables.proofs.FrameLaws.{graph-in-laws}
 use Rattle.entries.specs.declared.Aim.{Aim}
-use Rattle.entries.specs.Aims.{AimOf, Aimed, Held}
+use Rattle.entries.specs.Aims.{aimBy, AimOf, Aimed, Held}
 use Rattle.steps.specs.Loop.{Started, Finished}
 use Rattle.take_over.specs.TakeOver.{Holds, Takes}
 use Rattle.answer.specs.Way.{Leads}
@@ -73,10 +73,6 @@ module _ {s : Session} {t : Tables} (S : Sound s t) (e : s .hunter ≡ s .target
 -- The plan still has a column after the take-over.
 pub wide-after : {s r : Session} {t t′ : Tables} {m : calls.State} → Sound s t → Holds s m r t′ → 1 ≤ r .width
 wide-after S H = omega (arith, ap (λ f. f .width) (H .frame-is), S .plan .size .wide)
-
--- What the search goes by after the take-over, in the method's session σ.
-abbrev aimBy : Frame → calls.Session → ℕ → ℕ → Aim
-aimBy f σ row column = record { width = f .width; height = f .height; hunter = σ .origin; target = σ .goal; row = row; column = column; km = σ .km }
 
 -- The record that a search leaves: so many cells queued, so many searches.
 abbrev pub leftBy : Session → ℕ → ℕ → Session

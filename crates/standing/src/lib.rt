@@ -1,1 +1,1 @@
-// What stands between two calls; the definitions are in specs, the laws in proofs.
+// No code: what stands between two calls, and what each call makes of it, stands in specs/, that the calls leave it in proofs/.

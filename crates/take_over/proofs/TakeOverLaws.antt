@@ -134,7 +134,11 @@ module _ {s : Session} {t : Tables} (S : Sound s t) where
   module _ {r : Session} {t′ : Tables} where
     pub taken-late : renewal ≤ s .searches → (r ≡ begun (frame s) (s .hunter) (s .target)) × Opened (frame s) (s .hunter) (s .target) t t′ → Takes s t r t′
     unfolding calls.takenOver
-    taken-late e B = record { holds = subst (λ m. Holds s m r t′) (sym (choose-yes (decLe renewal (s .searches)) _ _ e)) (begun-holds B); untouched = λ _ l. absurd (omega (arith, l)); kept = λ l _. absurd (omega (arith, l)) }
+    taken-late e B = record {
+      holds = subst (λ m. Holds s m r t′) (sym (choose-yes (decLe renewal (s .searches)) _ _ e)) (begun-holds B);
+      untouched = λ _ l. absurd (in-time l e);
+      kept = λ l _. absurd (in-time l e);
+    }
 
     module _ (early : s .searches < renewal) where
       pub taken-same : s .hunter ≡ s .origin → r ≡ aimedAnew s → t′ ≡ t → Takes s t r t′
