@@ -26,7 +26,7 @@ use Rattle.entries.specs.declared.Aim.{Aim}
 use Rattle.entries.specs.declared.Found.{Found}
 use Rattle.entries.specs.declared.Asked.{Asked}
 use Rattle.entries.specs.declared.Asked.the-variants.{Keeps, Takes}
-use Rattle.entries.specs.Aims.{frameOf, AimOf, hunt, mostG, mostRhs}
+use Rattle.entries.specs.Aims.{AimOf, hunt, mostG, mostRhs}
 use Rattle.entries.specs.Became.{obeyed, Taking, Taken}
 use Rattle.entries.proofs.AimLaws.{ready-of, became-of}
 use Rattle.entries.proofs.SmallLaws.{sound-small-g, sound-small-rhs, sound-held}
@@ -70,13 +70,7 @@ abbrev huntAfter : Session → Tables → ℕ → ℕ → ℕ → Hunt
 huntAfter s t u d cost = record { graph = graph s (withPlan t (replanned s t u d cost)); hunter = s .origin; target = s .goal; km = s .km }
 
 abbrev Asking : Session → Tables → ℕ → ℕ → ℕ → ℕ → Asked → Type 0
-Asking s t u d cost v r = Asks (frame s) (s .origin) (replanned s t u d cost) (t .g) (t .rhs) (t .parent) v (backCode d) u (oldCost s t u d) cost r
-
--- What the aim's change asks, the session's asks.
-pub asks-of : {s : Session} {a : Aim} {plan g rhs parent : List ℕ} {v k u old new : ℕ} {r : Asked} → AimOf s a → Asks (frameOf a) (a .hunter) plan g rhs parent v k u old new r
-    → Asks (frame s) (s .origin) plan g rhs parent v k u old new r
-asks-of {plan = plan} {g = g} {rhs = rhs} {parent = parent} {v = v} {k = k} {u = u} {old = old} {new = new} {r = r} O =
-    subst (λ x. Asks (frameOf x) (x .hunter) plan g rhs parent v k u old new r) (O .is)
+Asking s t u d cost v r = Asks s (replanned s t u d cost) (t .g) (t .rhs) (t .parent) v (backCode d) u (oldCost s t u d) cost r
 
 -- What is asked concerns v, leaves room for a sum, and is asked only of a cell that is touched.
 abbrev Settled : Session → Tables → ℕ → ℕ → ℕ → ℕ → Asked → Type 0
@@ -88,7 +82,7 @@ pub record Working (s : Session) (t : Tables) (u d cost v k : ℕ) (r : Asked) :
   pub workable : Workable s t u d cost
   pub cell-is : v ≡ enteredCell s u d
   pub code-is : k ≡ backCode d
-  pub asks : Asks (frame s) (s .origin) (replanned s t u d cost) (t .g) (t .rhs) (t .parent) v k u (oldCost s t u d) cost r
+  pub asks : Asks s (replanned s t u d cost) (t .g) (t .rhs) (t .parent) v k u (oldCost s t u d) cost r
 
 module _ {s : Session} {t : Tables} {u d cost : ℕ} (W : Workable s t u d cost) where
   -- ---- before the change
@@ -104,15 +98,13 @@ module _ {s : Session} {t : Tables} {u d cost : ℕ} (W : Workable s t u d cost)
   obeys-after : Obeys (withByte (floor s (t .plan)) u d cost)
   obeys-after = changed-obeys (floor s (t .plan)) (W .sound .plan) u d cost (W .cell-in) (W .direction) (W .stays-in) (W .byte)
 
-  pub deciding : {a : Aim} {v : ℕ} → AimOf s a → v ≡ enteredCell s u d → Deciding (frameOf a) (replanned s t u d cost) (t .g) (t .rhs) (t .parent) v u
-  deciding {v = v} O e =
-      subst (λ x. Deciding (frameOf x) (replanned s t u d cost) (t .g) (t .rhs) (t .parent) v u) (sym (O .is))
-      (record {
-        findable = record { obeys = obeys-after; long-g = W .sound .numbers .sized .g; small-g = sound-small-g (W .sound); inside = entered-in e };
-        long-rhs = W .sound .numbers .sized .rhs;
-        long-parent = W .sound .numbers .sized .parent;
-        cell-in = W .cell-in;
-      })
+  pub deciding : {v : ℕ} → v ≡ enteredCell s u d → Deciding s (replanned s t u d cost) (t .g) (t .rhs) (t .parent) v u
+  deciding e = record {
+    findable = record { obeys = obeys-after; long-g = W .sound .numbers .sized .g; small-g = sound-small-g (W .sound); inside = entered-in e };
+    long-rhs = W .sound .numbers .sized .rhs;
+    long-parent = W .sound .numbers .sized .parent;
+    cell-in = W .cell-in;
+  }
 
   -- ---- after it
 
@@ -148,7 +140,7 @@ module _ {s : Session} {t : Tables} {u d cost v k : ℕ} {r : Asked} (Z : Workin
   W = Z .workable
 
   asks : Asking s t u d cost v r
-  asks = subst (λ x. Asks (frame s) (s .origin) (replanned s t u d cost) (t .g) (t .rhs) (t .parent) v x u (oldCost s t u d) cost r) (Z .code-is) (Z .asks)
+  asks = subst (λ x. Asks s (replanned s t u d cost) (t .g) (t .rhs) (t .parent) v x u (oldCost s t u d) cost r) (Z .code-is) (Z .asks)
 
   as-method : obeyed (huntAfter s t u d cost) (core t) r ≡ methodChange s t u d cost
   as-method = asked-is W (Z .cell-is) asks

@@ -1,6 +1,5 @@
 // The public call that changes a move, the same without the check for tables known to be sound, and what a changed move asks of the cell that it enters.
 use entries;
-use entries::Aim;
 use entries::Asked;
 use entries::Found;
 use plan;
@@ -11,7 +10,6 @@ ghost use Prim.Native.Nat.{_+_};
 ghost use Rattle.plan.specs.Cells.{Size};
 ghost use Rattle.tables.specs.Lent.{given, before, after};
 ghost use Rattle.tables.specs.Sound.{Sound};
-ghost use Rattle.entries.specs.Aims.{frameOf};
 ghost use Rattle.change.specs.Refusals.{MoveRules, Workable};
 ghost use Rattle.change.specs.Effects.{Deciding, Asks};
 ghost use Rattle.change.specs.Promise.{WorkedIn, Changes};
@@ -46,7 +44,7 @@ fn sum_of(far: u32, cost: u8) -> usize
 
 // What a changed move asks of the cell v that it enters, where it has parent code k. The plan has the new cost.
 fn effect_of(
-    a: Aim,
+    s: tables::Session,
     plan: &[u8],
     g: &[u32],
     rhs: &[u32],
@@ -57,13 +55,13 @@ fn effect_of(
     old: u8,
     new: u8,
 ) -> Asked
-    requires { ⌜ Deciding (frameOf a) (now plan) (now g) (now rhs) (now parent) v u ⌝ }
-    ensures { λ r. ⌜ Asks (frameOf a) (a .hunter) (now (plan .entry)) (now (g .entry)) (now (rhs .entry)) (now (parent .entry)) v k u old new r ⌝ }
+    requires { ⌜ Deciding s (now plan) (now g) (now rhs) (now parent) v u ⌝ }
+    ensures { λ r. ⌜ Asks s (now (plan .entry)) (now (g .entry)) (now (rhs .entry)) (now (parent .entry)) v k u old new r ⌝ }
 {
     let far = g[u];
     let y = rhs[v];
     let p = parent[v];
-    if v == a.hunter {
+    if v == s.origin {
         return Asked::Keeps;
     }
     if new < old {
@@ -85,6 +83,7 @@ fn effect_of(
     if p != k {
         return Asked::Keeps;
     }
+    let a = entries::aim_of(s);
     let f = entries::anew(a, plan, g, v);
     Asked::Takes(v, f)
 }
@@ -112,11 +111,11 @@ fn work_in(
     let i = 4 * u + d;
     let old = plan[i];
     plan[i] = cost;
-    let a = entries::aim_of(s);
-    let asked = effect_of(a, plan, g, rhs, parent, v, k, u, old, cost);
+    let asked = effect_of(s, plan, g, rhs, parent, v, k, u, old, cost);
     let Asked::Takes(cell, f) = asked else {
         return s.count;
     };
+    let a = entries::aim_of(s);
     let at = plan::spot_of(s.width, cell);
     entries::take(a, g, rhs, parent, k1, k2, place, list, s.count, cell, at, f)
 }

@@ -27,7 +27,7 @@ pub record State : Type 0 where
   pub session : Session
   pub tables : Tables
 
--- The session σ with these numbers. What a session would hold besides, none of these calls would change.
+-- The session σ with these numbers and all else as it was: a session has nothing else yet, so σ is not read.
 abbrev pub keeping : Session → (hunter target origin goal km searches : ℕ) → Session
 keeping σ hunter target origin goal km searches = record { hunter = hunter; target = target; origin = origin; goal = goal; km = km; searches = searches }
 

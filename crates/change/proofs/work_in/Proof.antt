@@ -1,6 +1,6 @@
 -- The byte is set; what the change asks of the cell entered is done, by `take`, or nothing is (WorkLaws).
 use Rattle.tables.specs.Lent.{Tables, tables}
-use Rattle.change.proofs.WorkLaws.{asks-of, Working, entering-sum, deciding, kept-worked, asked-taking, taken-worked}
+use Rattle.change.proofs.WorkLaws.{Working, entering-sum, deciding, kept-worked, asked-taking, taken-worked}
 use borrow.Author.Needs.{needs}
 use Rattle.change.proofs.work_in.Statement.{statement}
 use Rattle.change.proofs.work_in.Tie as tie
@@ -9,11 +9,8 @@ use Rattle.change.proofs.work_in.Tie as tie
 abbrev at-start : tie.After-back-code → tie.Start
 at-start b = b .before .before .before .before .before .before .before .before .before .before
 
-abbrev after-aim-of : tie.After-effect-of-arg3 → tie.After-aim-of
-after-aim-of c = c .before .before .before
-
-abbrev after-back-code : tie.After-aim-of → tie.After-back-code
-after-back-code x = x .before .before
+abbrev after-back-code : tie.After-effect-of-arg3 → tie.After-back-code
+after-back-code c = c .before .before .before .before
 
 abbrev after-spot-of : tie.After-take-arg6 → tie.After-spot-of
 after-spot-of c = c .before .before .before .before .before .before
@@ -29,18 +26,12 @@ got x =
 
 -- What the change asks is known.
 working : (e : tie.After-effect-of)
-    → let b = after-back-code (after-aim-of (e .before)) in
+    → let b = after-back-code (e .before) in
     let x = at-start b in
     Working (x .args .s) (got x) (x .args .u) (x .args .d) (x .args .cost) (b .before .entered .result) (b .back-code .result) (e .effect-of .result)
 working e =
-    let x = after-aim-of (e .before) in
-    let b = after-back-code x in
-    record {
-      workable = at-start b .pre;
-      cell-is = b .before .entered .ensures;
-      code-is = b .back-code .ensures;
-      asks = asks-of (x .aim-of .ensures) (e .effect-of .ensures);
-    }
+    let b = after-back-code (e .before) in
+    record { workable = at-start b .pre; cell-is = b .before .entered .ensures; code-is = b .back-code .ensures; asks = e .effect-of .ensures }
 
 entered-requires : tie.Need-entered-requires
 entered-requires c κs = entering-sum (c .before .before .before .before .before .before .before .before .pre)
@@ -60,14 +51,8 @@ slice-read-old c = search needs
 slice-write-plan : tie.Need-slice-write-plan
 slice-write-plan c = search needs
 
-aim-of-requires : tie.Need-aim-of-requires
-aim-of-requires c κs = search needs
-
 effect-of-requires : tie.Need-effect-of-requires
-effect-of-requires c κs =
-    let x = after-aim-of c in
-    let b = after-back-code x in
-    deciding (at-start b .pre) (x .aim-of .ensures) (b .before .entered .ensures)
+effect-of-requires c κs = let b = after-back-code c in deciding (at-start b .pre) (b .before .entered .ensures)
 
 enum-known-asked : tie.Need-enum-known-asked
 enum-known-asked c = search needs
@@ -87,15 +72,17 @@ same-length-3 c = search needs
 returns : tie.Need-returns
 returns c = kept-worked (working (c .before .before)) (c .enum-told .given .1)
 
+aim-of-requires : tie.Need-aim-of-requires
+aim-of-requires c κs = search needs
+
 spot-of-requires : tie.Need-spot-of-requires
 spot-of-requires c κs = search needs
 
 take-requires : tie.Need-take-requires
 take-requires c κs =
     let s = after-spot-of c in
-    let asked = s .before .before in
-    let e = asked .before .before in
-    asked-taking (working e) (asked .asked .given .1) (after-aim-of (e .before) .aim-of .ensures) (s .spot-of .ensures)
+    let asked = s .before .before .before in
+    asked-taking (working (asked .before .before)) (asked .asked .given .1) (s .before .aim-of .ensures) (s .spot-of .ensures)
 
 same-length-4 : tie.Need-same-length-4
 same-length-4 c = search needs
@@ -120,10 +107,10 @@ same-length-10 c = search needs
 
 returns-2 : tie.Need-returns-2
 returns-2 c =
-    let t = after-take c .take .ensures in
-    let asked = after-spot-of (after-take c .before) .before .before in
-    let e = asked .before .before in
-    taken-worked (working e) (asked .asked .given .1) (after-aim-of (e .before) .aim-of .ensures) (t .0) (t .1)
+    let e = after-take c .take .ensures in
+    let s = after-spot-of (after-take c .before) in
+    let asked = s .before .before .before in
+    taken-worked (working (asked .before .before)) (asked .asked .given .1) (s .before .aim-of .ensures) (e .0) (e .1)
 
 pub work-in-spec : {M : Type 1} → statement M
 work-in-spec =
@@ -135,7 +122,6 @@ work-in-spec =
     add-i
     slice-read-old
     slice-write-plan
-    aim-of-requires
     effect-of-requires
     enum-known-asked
     enum-told
@@ -143,6 +129,7 @@ work-in-spec =
     same-length-2
     same-length-3
     returns
+    aim-of-requires
     spot-of-requires
     take-requires
     same-length-4
