@@ -1,6 +1,7 @@
 -- The four cases of taking over, each by its law in TakeOverLaws: started fresh for the search number, the hunter where it was, started fresh for an infinite rhs, handed over.
 use mathlib.Core.Path.{refl}
 use native.Mathlib.Omega.{arith}
+use Rattle.plan.proofs.MoveLaws.{area}
 use Rattle.take_over.proofs.TakeOverLaws.{openable, aiming, handing, taken-late, taken-same, taken-far, taken-new}
 use borrow.Author.Needs.{needs}
 use Rattle.take_over.proofs.take_over.Statement.{statement}
@@ -95,7 +96,7 @@ returns-2 c =
     refl
 
 mul-if3 : tie.Need-mul-if3
-mul-if3 c = search needs
+mul-if3 c = let S = at-start-from-hunter-moved c .pre in omega (arith, S .numbers .hunter-in, area (S .plan .size))
 
 slice-read-if3 : tie.Need-slice-read-if3
 slice-read-if3 c = let S = at-start-from-hunter-moved (c .before) .pre in omega (arith, S .numbers .hunter-in, S .numbers .sized .rhs)
