@@ -16,11 +16,12 @@ use Rattle.plan.specs.Cells.{Stays, stays, estimate}
 use Rattle.plan.specs.Costs.{planOf, isCost}
 use Rattle.plan.specs.Grid.{outBy, intoBy, upTo}
 use Rattle.drill_file.specs.File.{actionOf, actionAt, actionsFrom, wellFormed, isSize, formNumber}
+use Rattle.drill_file.specs.Numbers.{below, isByte, bytesHold, edgeHolds, edgesHold, openNumber, fileNumber}
 use Rattle.text.specs.Text.{bytes, digits}
 use Rattle.lines.specs.Lines.{spaced}
-use Rattle.drill.specs.Numbers.{below, isByte, bytesHold, edgeHolds, edgesHold, openNumber, moveNumber}
+use Rattle.drill.specs.Numbers.{moveNumber}
 use Rattle.drill.specs.Play.{turn, played, leftBy, takenFrom, takenBy}
-use Rattle.drill.specs.Output.{fileNumber, output}
+use Rattle.drill.specs.Output.{output}
 use Rattle.drill.specs.Cases.{given, cases}
 
 -- For every file of the list the definitions give what the list says.

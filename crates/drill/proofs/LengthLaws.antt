@@ -18,14 +18,15 @@ use Rattle.standing.specs.Standing.{Standing, floorAt, graphAt, searchAt}
 use Rattle.drill_file.specs.declared.Action.{Action}
 use Rattle.drill_file.specs.declared.Action.the-variants.{Change, Hunter, Target, Search, Bad}
 use Rattle.drill_file.specs.File.{trailerOf, actionsFrom, actionsOf}
+use Rattle.drill_file.specs.Numbers.{fileNumber}
+use Rattle.drill_file.proofs.NumberLaws.{formed, file-formed}
 use Rattle.text.specs.Text.{bytes, decimal}
 use Rattle.text.proofs.DecimalLaws.{decimal-few}
 use Rattle.lines.specs.Lines.{spaced, line, refusedLine}
 use Rattle.drill.specs.Numbers.{moveNumber}
 use Rattle.drill.specs.Play.{Turn, turn, played}
-use Rattle.drill.specs.Output.{fileNumber, begun, output}
+use Rattle.drill.specs.Output.{begun, output}
 use Rattle.drill.specs.Promises.{NextPiece}
-use Rattle.drill.proofs.NumberLaws.{formed, file-formed}
 
 -- A way has a cell more than it has links, at most one for each cell of the plan.
 way-few : (H : Hunt) (parent : List ℕ) (links s : ℕ) (rest : List ℕ) → length (method-session.wayFrom H parent links s rest) ≤ links + 1 + length rest

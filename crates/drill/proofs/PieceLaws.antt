@@ -12,14 +12,16 @@ use Rattle.tables.specs.declared.Session.{Session}
 use Rattle.tables.specs.Lent.{Tables, cells}
 use Rattle.drill_file.specs.declared.Action.{Action}
 use Rattle.drill_file.specs.File.{actionsFrom, actionsOf}
+use Rattle.drill_file.specs.Numbers.{fileNumber}
+use Rattle.drill_file.proofs.NumberLaws.{formed, file-formed}
 use Rattle.text.specs.Put.{Put}
 use Rattle.lines.specs.Lines.{refusedLine, room}
 use Rattle.drill.specs.declared.Played.{Played}
 use Rattle.standing.specs.Standing.{Standing, stands}
 use Rattle.drill.specs.Play.{played, leftBy}
-use Rattle.drill.specs.Output.{fileNumber, begun, output}
+use Rattle.drill.specs.Output.{begun, output}
 use Rattle.drill.specs.Promises.{Playing, Plays, Begins, Unprinted, NextPiece}
-use Rattle.drill.proofs.NumberLaws.{formed, file-formed, refused-prints}
+use Rattle.drill.proofs.NumberLaws.{refused-prints}
 use Rattle.drill.proofs.PlayLaws.{actions-more, played-more}
 
 -- ---- a piece

@@ -5,6 +5,7 @@ use Rattle.method.specs.Numbers.{infinite}
 use Rattle.method.specs.Steps.{lower, raise}
 use Rattle.text.specs.Text.{bytes}
 use Rattle.drill_file.specs.File.{actionsOf}
+use Rattle.drill_file.specs.Whole.{oneDrill}
 use Rattle.drill.specs.Play.{Taken, takenBy, leftBy}
 use Rattle.drill.specs.Output.{begun, output}
 
@@ -47,23 +48,6 @@ ask = 4 ∷ 0 ∷ 0 ∷ 0 ∷ 0 ∷ []
 abbrev pub trailer : ℕ → ℕ → ℕ → ℕ → ℕ → ℕ → List ℕ
 trailer width height hunter target actions offset =
     width ∷ height ∷ hunter ∷ 0 ∷ target ∷ 0 ∷ actions ∷ 0 ∷ offset ∷ 0 ∷ 0 ∷ 0 ∷ []
-
--- "One drill, whole": the 79 bytes as they are printed there, a group to a line.
-abbrev pub oneDrill : List ℕ
-oneDrill =
-    (255 ∷ 1 ∷ 255 ∷ 255 ∷ 255 ∷ 1 ∷ 255 ∷ 1 ∷ 255 ∷ 255 ∷ 255 ∷ 1 ∷ [])
-    ++ (4 ∷ 0 ∷ 0 ∷ 0 ∷ 0 ∷ [])
-    ++ (1 ∷ 1 ∷ 0 ∷ 1 ∷ 255 ∷ [])
-    ++ (4 ∷ 0 ∷ 0 ∷ 0 ∷ 0 ∷ [])
-    ++ (1 ∷ 1 ∷ 0 ∷ 1 ∷ 5 ∷ [])
-    ++ (4 ∷ 0 ∷ 0 ∷ 0 ∷ 0 ∷ [])
-    ++ (2 ∷ 1 ∷ 0 ∷ 0 ∷ 0 ∷ [])
-    ++ (4 ∷ 0 ∷ 0 ∷ 0 ∷ 0 ∷ [])
-    ++ (3 ∷ 0 ∷ 0 ∷ 0 ∷ 0 ∷ [])
-    ++ (4 ∷ 0 ∷ 0 ∷ 0 ∷ 0 ∷ [])
-    ++ (3 ∷ 1 ∷ 0 ∷ 0 ∷ 0 ∷ [])
-    ++ (4 ∷ 0 ∷ 0 ∷ 0 ∷ 0 ∷ [])
-    ++ (3 ∷ 1 ∷ 0 ∷ 0 ∷ 2 ∷ 0 ∷ 11 ∷ 0 ∷ 12 ∷ 0 ∷ 0 ∷ 0 ∷ [])
 
 -- The plan of 1 by 1: every move leaves it.
 abbrev pub oneByOne : List ℕ

@@ -14,12 +14,13 @@ use Rattle.search.specs.Promise.{written}
 use Rattle.standing.specs.Standing.{Standing, stands}
 use Rattle.drill_file.specs.declared.Action.{Action}
 use Rattle.drill_file.specs.File as drill-file
+use Rattle.drill_file.specs.Numbers.{fileNumber}
 use Rattle.text.specs.Put.{Put}
 use Rattle.lines.specs.Lines.{refusedLine, room}
 use Rattle.drill.specs.declared.Turned.{Turned}
 use Rattle.drill.specs.declared.Played.{Played}
 use Rattle.drill.specs.Play.{turn, played, leftBy, wayLeft}
-use Rattle.drill.specs.Output.{fileNumber, begun, output}
+use Rattle.drill.specs.Output.{begun, output}
 
 -- The line of a call's answer: a call that is done prints nothing.
 abbrev pub told : Answer → List ℕ

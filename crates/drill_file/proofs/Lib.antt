@@ -1,3 +1,4 @@
 pub mod FileLaws
+pub mod NumberLaws
 pub mod LoopSteps
 pub mod OneReader

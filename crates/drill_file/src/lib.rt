@@ -157,7 +157,7 @@ fn is_bad(action: Action) -> bool
 }
 
 // Is none of so many actions from a place on badly formed? One reader goes through them.
-fn well_formed(file: &[u8], from: usize, actions: usize) -> bool
+pub fn well_formed(file: &[u8], from: usize, actions: usize) -> bool
     requires { ⌜ from + 5 * actions ≤ length (now file) ⌝ }
     ensures { λ r. ⌜ r ≡ wellFormed (actionsFrom (now (file .entry)) from actions) ⌝ }
 {

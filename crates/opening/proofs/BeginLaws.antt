@@ -22,10 +22,11 @@ use Rattle.drill_file.proofs.FileLaws.{trailer-there}
 use Rattle.text.specs.Put.{Put}
 use Rattle.text.proofs.PutLaws.{put-byte, put-then, put-as}
 use Rattle.drill.specs.declared.Played.{Played}
-use Rattle.drill.specs.Numbers.{openNumber}
-use Rattle.drill.specs.Output.{frameIn, planIn, fileNumber, begun}
+use Rattle.drill_file.specs.Numbers.{openNumber, planIn, fileNumber}
+use Rattle.drill_file.proofs.NumberLaws.{formed, file-number, cells-formed}
+use Rattle.drill.specs.Output.{frameIn, begun}
 use Rattle.drill.specs.Promises.{Refuses, Starts, Begins}
-use Rattle.drill.proofs.NumberLaws.{open-number, number-opens, formed, file-number, cells-formed}
+use Rattle.drill.proofs.NumberLaws.{open-number, number-opens}
 
 -- ---- the plan copied
 

@@ -12,7 +12,7 @@ ghost use lib.ListN.{length, take};
 ghost use Rattle.tables.specs.Lent.{given, before, after, Fits};
 ghost use Rattle.lines.specs.Lines.{room};
 ghost use Rattle.drill_file.specs.File.{trailerIn, cellsIn};
-ghost use Rattle.drill.specs.Output.{fileNumber};
+ghost use Rattle.drill_file.specs.Numbers.{fileNumber};
 ghost use Rattle.drill.specs.Promises.{Opening, Refuses, Begins};
 
 // Copies the file's first bytes into the plan.

@@ -3,8 +3,8 @@ use mathlib.Core.Path.{_≡_, sym, _∙_}
 use native.Mathlib.Omega.{arith}
 use borrow.Author.Needs.{needs}
 use Rattle.entries.proofs.BeginLaws.{openable-on, opened-on}
-use Rattle.drill.specs.Output.{fileNumber}
-use Rattle.drill.proofs.NumberLaws.{file-formed}
+use Rattle.drill_file.specs.Numbers.{fileNumber}
+use Rattle.drill_file.proofs.NumberLaws.{file-formed}
 use Rattle.opening.proofs.BeginLaws.{plan-in-file, openable, starts, begins-refused, begins-opened}
 use Rattle.opening.proofs.begin.Statement.{statement}
 use Rattle.opening.proofs.begin.Tie as tie

@@ -2,7 +2,7 @@
 use mathlib.Core.Path.{sym, _∙_}
 use lib.ListN.{length}
 use borrow.Author.Needs.{needs}
-use Rattle.drill.proofs.NumberLaws.{form-refused}
+use Rattle.drill_file.proofs.NumberLaws.{form-refused}
 use Rattle.drill.proofs.PieceLaws.{from-start}
 use Rattle.opening.proofs.BeginLaws.{plan-in-file, number-found}
 use Rattle.opening.proofs.file_refusal.Statement.{statement}
