@@ -24,6 +24,9 @@ extern "C" {
 /* The greatest number of cells, N = width * height. */
 #define RONGDHESI_GREATEST_CELLS 4096
 
+/* The greatest length of a drill file in bytes. */
+#define RONGDHESI_GREATEST_FILE 65536
+
 /* Directions: north (row less 1), east (column plus 1), south (row plus 1), west (column less 1). */
 #define RONGDHESI_NORTH 0
 #define RONGDHESI_EAST 1
@@ -41,15 +44,16 @@ extern "C" {
 #define RONGDHESI_CAUGHT 3
 #define RONGDHESI_REFUSED 4
 
-/* The refusal numbers. Where several apply, the one named first is given; their order is 1 2 6 3 4 5 7 9.
- * Refusals 1 to 7 change no table and return the record as it came (open: a record of zeros). */
+/* The refusal numbers. Where several apply, the one named first is given; their order is 1 2 6 3 4 5 8 7 9.
+ * Refusals 1 to 8 change no table and return the record as it came (open: a record of zeros). */
 #define RONGDHESI_REFUSED_SIZE 1    /* width or height not 1 to 64 */
 #define RONGDHESI_REFUSED_LENGTH 2  /* a table is not of its length */
 #define RONGDHESI_REFUSED_CELL 3    /* a given cell is N or more */
 #define RONGDHESI_REFUSED_MOVE 4    /* direction above 3, or the move leaves the plan (open: such a byte is not 255) */
 #define RONGDHESI_REFUSED_COST 5    /* a cost is not 1 to 250 and not 255 */
 #define RONGDHESI_REFUSED_UNSOUND 6 /* the tables are not sound */
-#define RONGDHESI_REFUSED_ROOM 7    /* the way list is shorter than N */
+#define RONGDHESI_REFUSED_ROOM 7    /* the way list is shorter than N, or the room for a drill file than the file */
+#define RONGDHESI_REFUSED_FORM 8    /* an action is badly formed, or there are more than a drill file has room for */
 #define RONGDHESI_REFUSED_STEPS 9   /* 3N steps taken and the search not ended; from sound tables this never happens */
 
 /* The session record. A call is given it by value and returns the record for the next call. */
@@ -136,6 +140,26 @@ rongdhesi_reply rongdhesi_search(
     uint16_t *place, size_t place_length,
     uint16_t *list, size_t list_length,
     uint16_t *way, size_t way_length);
+
+/* What rongdhesi_write_drill returns. What an answer lacks is 0. */
+typedef struct rongdhesi_written {
+    uint64_t refusal; /* 0, or the number */
+    uint64_t bytes;   /* how many bytes were written, if not refused: the length of the drill file */
+} rongdhesi_written;
+
+/* Writes the drill file of a plan, its hunter and target and its actions into the room `file`, from its first byte on.
+ * plan: as rongdhesi_open has it. actions: five bytes for each action, as the drill file has them: kind, cell (two bytes,
+ * low byte first), direction, cost. Kind 1 changes a move; 2 places the hunter, and 3 the target, with direction and cost
+ * 0; 4 searches, with all four bytes 0. Cell, direction and cost of a change are not looked at: the calls answer for them
+ * when the drill is played.
+ * Refused by 1, 2 (the plan's length), 3, 4, 5, 8 (also if the actions' bytes are no multiple of five) or 7, in this order;
+ * nothing is written then. What stands behind the file in the room keeps its contents. RONGDHESI_GREATEST_FILE bytes are
+ * room enough for every drill. */
+rongdhesi_written rongdhesi_write_drill(
+    uint64_t width, uint64_t height, uint64_t hunter, uint64_t target,
+    const uint8_t *plan, size_t plan_length,
+    const uint8_t *actions, size_t actions_length,
+    uint8_t *file, size_t file_length);
 
 #ifdef __cplusplus
 }

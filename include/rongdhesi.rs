@@ -4,6 +4,8 @@
 
 pub const SHUT: u64 = 255;
 
+pub const GREATEST_FILE: usize = 65_536;
+
 pub const DONE: u64 = 0;
 pub const WAY: u64 = 1;
 pub const NONE: u64 = 2;
@@ -46,6 +48,14 @@ pub struct Lengths {
     pub cells: u64,
 }
 
+/// What `write_drill` returns, in the layout of C.
+#[repr(C)]
+#[derive(Clone, Copy, Debug, PartialEq, Eq)]
+pub struct Written {
+    pub refusal: u64,
+    pub bytes: u64,
+}
+
 /// The tables but the plan and the way list, lent to a call.
 pub struct Lent<'a> {
     pub g: &'a mut [u32],
@@ -78,7 +88,7 @@ macro_rules! lent {
 pub(crate) use lent;
 
 mod c {
-    use super::{Lengths, Reply, Session};
+    use super::{Lengths, Reply, Session, Written};
 
     extern "C" {
         pub fn rongdhesi_lengths(width: u64, height: u64) -> Lengths;
@@ -119,6 +129,12 @@ mod c {
             list: *mut u16, list_length: usize,
             way: *mut u16, way_length: usize,
         ) -> Reply;
+        pub fn rongdhesi_write_drill(
+            width: u64, height: u64, hunter: u64, target: u64,
+            plan: *const u8, plan_length: usize,
+            actions: *const u8, actions_length: usize,
+            file: *mut u8, file_length: usize,
+        ) -> Written;
     }
 }
 
@@ -180,6 +196,17 @@ pub fn search(session: Session, plan: &[u8], t: Lent, way: &mut [u16]) -> Reply 
             t.place.as_mut_ptr(), t.place.len(),
             t.list.as_mut_ptr(), t.list.len(),
             way.as_mut_ptr(), way.len(),
+        )
+    }
+}
+
+pub fn write_drill(width: u64, height: u64, hunter: u64, target: u64, plan: &[u8], actions: &[u8], file: &mut [u8]) -> Written {
+    unsafe {
+        c::rongdhesi_write_drill(
+            width, height, hunter, target,
+            plan.as_ptr(), plan.len(),
+            actions.as_ptr(), actions.len(),
+            file.as_mut_ptr(), file.len(),
         )
     }
 }

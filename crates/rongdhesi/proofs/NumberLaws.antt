@@ -15,8 +15,10 @@ use Rattle.change.specs.Promise.{Changes}
 use Rattle.answer.specs.declared.Answer.{Answer as SearchAnswer}
 use Rattle.answer.specs.declared.Answer.the-variants.{Way, Refused}
 use Rattle.answer.specs.Answer.{toldBy}
+use Rattle.drill_writer.specs.declared.Written.{Written as DrillWritten}
+use Rattle.drill_writer.specs.Promise.{writtenTold}
 use Rattle.rongdhesi.specs.declared.Reply.{Reply}
-use Rattle.rongdhesi.specs.Told.{replyOf, byteOf}
+use Rattle.rongdhesi.specs.Told.{replyOf, byteOf, writtenOf}
 
 -- ---- open, place and change
 
@@ -37,6 +39,11 @@ way-told s {n = n} {k = k} e f list = ap (λ (x : ℕ). replyOf s (toldBy (Way x
 
 pub search-refused-told : (s : Session) {a : SearchAnswer} {n : ℕ} {r : Reply} → a ≡ Refused n → r ≡ replyOf s (toldRefusal n) → (list : List ℕ) → r ≡ replyOf s (toldBy a list)
 search-refused-told s e f list = f ∙ search-told s e list
+
+-- ---- writing a drill file
+
+pub writing-told : {a b : DrillWritten} → a ≡ b → writtenOf (writtenTold b) ≡ writtenOf (writtenTold a)
+writing-told e = ap (λ (x : DrillWritten). writtenOf (writtenTold x)) (sym e)
 
 -- ---- a cost
 

@@ -31,8 +31,13 @@ use Rattle.search.specs.Promise.{SearchRules, Searches}
 use Rattle.demands.specs.Demands.{Exactly, stepsOf, RightlyAnswered, caught, none-leads, way-shown, TakesTheSteps, FewSteps}
 use Rattle.demands.proofs.Demands.{demand-1, demand-1-exactly, demand-2, demand-3, one-search}
 use Rattle.rongdhesi.specs.declared.Reply.{Reply}
+use Rattle.drill_writer.specs.declared.Written.{Written as DrillWritten}
+use Rattle.drill_writer.specs.Promise.{writtenTold, WriteRules, Writes}
+use Rattle.drill_writer.proofs.Theorems.{one-writing, write-exactly}
+use Rattle.drill_writer.proofs.Theorems as writer
 use Rattle.rongdhesi.specs.declared.Lengths.{Lengths}
-use Rattle.rongdhesi.specs.Told.{kindOf, replyOf, CallTold, SearchTold, Measures}
+use Rattle.rongdhesi.specs.declared.Written.{Written}
+use Rattle.rongdhesi.specs.Told.{kindOf, replyOf, writtenOf, CallTold, SearchTold, Measures, WritingTold}
 use Rattle.rongdhesi.specs.Demanded.{ToldExactly, RightlyTold, TakesTheStepsTold, FewStepsTold}
 
 -- ---- what is told of a reply
@@ -196,3 +201,23 @@ one-measuring {r = r} {r′ = r′} P Q = at (ℕ-discrete (r .refusal) 0)
     at : Dec (r .refusal ≡ 0) → r ≡ r′
     at (yes z) = let p = P .done z in let q = Q .done (sym e ∙ z) in same (p .0 ∙ sym (q .0)) (p .1 ∙ sym (q .1))
     at (no n) = let p = P .refused n in let q = Q .refused (λ z. n (e ∙ z)) in same (p .0 ∙ sym (q .0)) (p .1 ∙ sym (q .1))
+
+-- ---- writing a drill file
+
+module _ {width height hunter target : ℕ} {plan actions file file′ : List ℕ} {r : Written} (P : WritingTold (λ x. Writes width height hunter target plan actions file x file′) r) where
+  -- Where k is the number of the first rule broken, the reply carries k and nothing else, and nothing has changed;
+  pub write-refused : {k : ℕ} → WriteRules width height hunter target plan actions (length file) k → k ≢ 0 → (r ≡ writtenOf (record { refusal = k; bytes = 0 })) × (file′ ≡ file)
+  write-refused rules n =
+      let d = writer.write-refused (P .promised) rules n in
+      (P .told ∙ ap (λ (x : DrillWritten). writtenOf (writtenTold x)) (d .0), d .1)
+
+  -- the number told is k exactly if k is the number of the first rule broken, and 0 exactly if none is.
+  pub write-told-exactly : (k : ℕ) → (r .refusal ≡ k) ↔ WriteRules width height hunter target plan actions (length file) k
+  write-told-exactly k = subst (λ (y : Written). (y .refusal ≡ k) ↔ WriteRules width height hunter target plan actions (length file) k) (sym (P .told)) (write-exactly (P .promised) k)
+
+-- Two results that the statement allows are equal, every byte of the room too.
+pub one-writing-told : {width height hunter target : ℕ} {plan actions file a b : List ℕ} {r s : Written} → WritingTold (λ x. Writes width height hunter target plan actions file x a) r
+    → WritingTold (λ x. Writes width height hunter target plan actions file x b) s → (r ≡ s) × (a ≡ b)
+one-writing-told P Q =
+    let one = one-writing (P .promised) (Q .promised) in
+    (P .told ∙ ap (λ (x : DrillWritten). writtenOf (writtenTold x)) (one .0) ∙ sym (Q .told), one .1)

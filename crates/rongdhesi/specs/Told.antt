@@ -14,7 +14,10 @@ use Rattle.session.specs.Refusals.{toldBy as toldByCall}
 use Rattle.answer.specs.Answer.{toldBy}
 use Rattle.search.specs.declared.Outcome.{Outcome}
 use Rattle.rongdhesi.specs.declared.Reply.{Reply}
+use Rattle.drill_writer.specs.declared.Written.{Written as DrillWritten}
+use Rattle.drill_writer.specs.Promise.{WriteTold, writtenTold}
 use Rattle.rongdhesi.specs.declared.Lengths.{Lengths}
+use Rattle.rongdhesi.specs.declared.Written.{Written}
 
 -- ---- answers in numbers
 
@@ -38,6 +41,10 @@ OutcomeTold called r = (list : List ℕ) → r ≡ replyOf (called .session) (to
 unfoldable pub byteOf : ℕ → ℕ
 byteOf n = cond (ltb 255 n) 0 n
 
+-- What writing a drill file tells, in the record that crosses.
+abbrev pub writtenOf : WriteTold → Written
+writtenOf x = record { refusal = x .refusal; bytes = x .bytes }
+
 -- ---- promises
 
 -- What is returned is what a call of the library returns, told in numbers.
@@ -50,6 +57,11 @@ pub record SearchTold (Promised : Outcome → Type 0) (r : Reply) : Type 0 where
   pub called : Outcome
   pub promised : Promised called
   pub told : OutcomeTold called r
+
+pub record WritingTold (Promised : DrillWritten → Type 0) (r : Written) : Type 0 where
+  pub called : DrillWritten
+  pub promised : Promised called
+  pub told : r ≡ writtenOf (writtenTold called)
 
 -- The lengths of the tables for a size: "Every table has exactly the length that N gives (the plan 4N)."
 pub record Measures (width height : ℕ) (r : Lengths) : Type 0 where

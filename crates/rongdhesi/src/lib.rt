@@ -2,6 +2,7 @@
 // An enum cannot cross, so an answer is told in numbers. `include/rongdhesi.h` declares all of this for C.
 use answer;
 use change;
+use drill_writer;
 use plan;
 use search;
 use search::Outcome;
@@ -14,7 +15,8 @@ ghost use Rattle.session.specs.Refusals.{toldBy as toldByCall};
 ghost use Rattle.session.specs.Promises.{hunterAt, targetAt, Places, Opens};
 ghost use Rattle.change.specs.Promise.{Changes};
 ghost use Rattle.search.specs.Promise.{Searches};
-ghost use Rattle.rongdhesi.specs.Told.{replyOf, OutcomeTold, byteOf, CallTold, SearchTold, Measures};
+ghost use Rattle.drill_writer.specs.Promise.{writtenTold, Writes};
+ghost use Rattle.rongdhesi.specs.Told.{replyOf, OutcomeTold, byteOf, writtenOf, CallTold, SearchTold, Measures, WritingTold};
 
 // The kinds of answer.
 const DONE: usize = 0;
@@ -44,6 +46,13 @@ pub struct Lengths {
     pub refusal: usize,
     pub plan: usize,
     pub cells: usize,
+}
+
+// What writing a drill file returns: the refusal's number, and how many bytes were written. What an answer lacks is 0.
+#[repr(C)]
+pub struct Written {
+    pub refusal: usize,
+    pub bytes: usize,
 }
 
 // A refusal in numbers: it "carries its number only".
@@ -253,4 +262,34 @@ pub extern "C" fn rongdhesi_search(
 {
     let called = search::search(s, plan, g, rhs, parent, k1, k2, place, list, way);
     search_told(called)
+}
+
+// The answer of writing a drill file in numbers.
+fn written_told(called: drill_writer::Written) -> Written
+    ensures { λ r. ⌜ r ≡ writtenOf (writtenTold called) ⌝ }
+{
+    match called {
+        drill_writer::Written::Bytes(bytes) => Written { refusal: 0, bytes },
+        drill_writer::Written::Refused(refusal) => Written {
+            refusal: refusal as usize,
+            bytes: 0,
+        },
+    }
+}
+
+// Writes the drill file of a plan, its hunter and target and its actions, five bytes each, into the lent room.
+#[no_mangle]
+pub extern "C" fn rongdhesi_write_drill(
+    width: usize,
+    height: usize,
+    hunter: usize,
+    target: usize,
+    plan: &[u8],
+    actions: &[u8],
+    file: &mut [u8],
+) -> Written
+    ensures { λ r. ⌜ WritingTold (λ x. Writes width height hunter target (now (plan .entry)) (now (actions .entry)) (now (file .entry)) x (now (file .exit))) r ⌝ }
+{
+    let called = drill_writer::write(width, height, hunter, target, plan, actions, file);
+    written_told(called)
 }
