@@ -1,0 +1,2 @@
+-- What writing a drill file again promises.
+pub mod Again
