@@ -4,6 +4,7 @@
 pub mod calls;
 pub mod chance;
 pub mod dijkstra;
+pub mod drawn;
 pub mod drill;
 pub mod made;
 pub mod model;

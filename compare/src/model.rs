@@ -584,13 +584,13 @@ impl<'a> Work<'a> {
     }
 }
 
-/// Gives the number by which open refuses, or 0.
-fn open_refusal(width: u64, height: u64, hunter: u64, target: u64, tables: &Tables) -> u8 {
+/// Gives the number by which a size, a plan and the cells of hunter and target are refused, or 0.
+pub fn plan_refusal(width: u64, height: u64, hunter: u64, target: u64, plan: &[u8]) -> u8 {
     let cells = match cells_of(width, height) {
         Some(cells) => cells,
         None => return 1,
     };
-    if !lengths_fit(tables, cells) {
+    if plan.len() != 4 * cells {
         return 2;
     }
     if hunter >= cells as u64 || target >= cells as u64 {
@@ -598,17 +598,23 @@ fn open_refusal(width: u64, height: u64, hunter: u64, target: u64, tables: &Tabl
     }
     for cell in 0..cells {
         for direction in 0..4 {
-            if neighbour(width, height, cell, direction).is_none()
-                && tables.plan[4 * cell + direction] != SHUT
-            {
+            if neighbour(width, height, cell, direction).is_none() && plan[4 * cell + direction] != SHUT {
                 return 4;
             }
         }
     }
-    if tables.plan.iter().any(|&byte| !is_cost(byte)) {
+    if plan.iter().any(|&byte| !is_cost(byte)) {
         return 5;
     }
     0
+}
+
+/// Gives the number by which open refuses, or 0. The lengths of all tables come before the cells.
+fn open_refusal(width: u64, height: u64, hunter: u64, target: u64, tables: &Tables) -> u8 {
+    match cells_of(width, height) {
+        Some(cells) if !lengths_fit(tables, cells) => 2,
+        _ => plan_refusal(width, height, hunter, target, &tables.plan),
+    }
 }
 
 /// Opens a session on the plan that stands in the tables.

@@ -7,7 +7,7 @@ use crate::model::{neighbour, Answer, Session, INFINITE};
 use crate::spoil::{cut, cut_one, flip_field};
 
 /// Draws a number that is far too great.
-fn draw_great(chance: &mut Chance) -> u64 {
+pub fn draw_great(chance: &mut Chance) -> u64 {
     [256, 257, 65_535, 65_536, 1 << 32, (1 << 32) + 1, 1 << 63, u64::MAX][chance.draw(8) as usize]
 }
 

@@ -3,7 +3,7 @@
 
 use compare::chance::Chance;
 use compare::dijkstra::distances;
-use compare::drill;
+use compare::drill::{self, Drill};
 use compare::made::{draw_plan, sound_tables};
 use compare::model::{
     change, estimate, is_sound, neighbour, open, opposite, place_hunter, place_target, search,
@@ -76,6 +76,9 @@ fn main() {
     whole_drill(&mut count);
     fourth_search_of_the_drill(&mut count);
     runner_refusals(&mut count);
+    written_drills(&mut count);
+    writer_refusals(&mut count);
+    actions_of_the_writer(&mut count);
     edges(&mut count);
     fresh_tables(&mut count);
     record_by_numbers(&mut count);
@@ -204,6 +207,101 @@ fn runner_refusals(count: &mut Count) {
     count.same("the fullest drill", drill::run(&file), String::new());
     let more = vec![[2, 255, 15, 0, 0]; 9_829];
     count.same("one action more", run(&full, &more, 64, 64, 0, 4_095), "refused 8\n".to_string());
+}
+
+/// The parts of a drill, for the writer.
+fn parts(plan: &[u8], actions: &[[u8; 5]], width: u64, height: u64, hunter: u64, target: u64) -> Drill {
+    Drill { width, height, hunter, target, plan: plan.to_vec(), actions: actions.concat() }
+}
+
+/// The parts of the paper's drill, as the paper tells them.
+fn parts_of_the_drill() -> Drill {
+    let actions = [
+        [4, 0, 0, 0, 0],
+        [1, 1, 0, 1, 255],
+        [4, 0, 0, 0, 0],
+        [1, 1, 0, 1, 5],
+        [4, 0, 0, 0, 0],
+        [2, 1, 0, 0, 0],
+        [4, 0, 0, 0, 0],
+        [3, 0, 0, 0, 0],
+        [4, 0, 0, 0, 0],
+        [3, 1, 0, 0, 0],
+        [4, 0, 0, 0, 0],
+    ];
+    parts(&row_of_three(), &actions, 3, 1, 0, 2)
+}
+
+/// What the writer writes, and that the reader takes it back as the same drill.
+fn written_drills(count: &mut Count) {
+    let mut written = |what: &str, drill: Drill, file: &[u8]| {
+        count.same(what, drill::write(&drill, file.len()), Ok(file.to_vec()));
+        count.same("longer room", drill::write(&drill, file.len() + 1), Ok(file.to_vec()));
+        count.same("shorter room", drill::write(&drill, file.len() - 1), Err(7));
+        count.same("no room", drill::write(&drill, 0), Err(7));
+        count.same("read back", drill::read(file), Ok(drill));
+    };
+    written("the whole drill", parts_of_the_drill(), include_bytes!("../../../examples/whole-drill/drill"));
+    // Each number of two bytes or more has a high one: hunter 4,094, target 259, 257 actions, offset 16,384.
+    let full = even_plan(64, 64, 250);
+    let actions = [[2, 254, 15, 0, 0]; 257];
+    let trailer = [64, 64, 254, 15, 3, 1, 1, 1, 0, 64, 0, 0];
+    let file = [full.clone(), actions.concat(), trailer.to_vec()].concat();
+    written("high bytes", parts(&full, &actions, 64, 64, 4_094, 259), &file);
+    let smallest = [255, 255, 255, 255, 1, 1, 0, 0, 0, 0, 0, 0, 4, 0, 0, 0];
+    written("1 by 1, no actions", parts(&[255; 4], &[], 1, 1, 0, 0), &smallest);
+}
+
+/// The writer: 1 2 3 4 5 8 7. Each drill has every later fault too, and then these are taken away one by one.
+fn writer_refusals(count: &mut Count) {
+    let mut try_write = |what: &str, drill: &Drill, number: u8| {
+        count.same(what, drill::write(drill, 0), Err(number));
+    };
+    let mut faulty = parts_of_the_drill();
+    faulty.actions[0] = 0;
+    (faulty.plan[1], faulty.plan[8]) = (0, 1);
+    (faulty.hunter, faulty.target) = (3, u64::MAX);
+    let short = Drill { plan: faulty.plan[..11].to_vec(), ..faulty.clone() };
+    for (width, height) in [(0, 1), (3, 0), (65, 1), (3, 65), (u64::MAX, 1), (1 << 32, 1 << 32)] {
+        try_write("1", &Drill { width, height, ..short.clone() }, 1);
+    }
+    try_write("2, too short", &short, 2);
+    try_write("2, too long", &Drill { plan: [&faulty.plan[..], &[255]].concat(), ..faulty.clone() }, 2);
+    try_write("2, empty", &Drill { plan: Vec::new(), ..faulty.clone() }, 2);
+    try_write("2 for another size", &Drill { width: 1, ..faulty.clone() }, 2);
+    try_write("3 of both", &faulty, 3);
+    faulty.hunter = 2;
+    try_write("3 of the target", &faulty, 3);
+    (faulty.hunter, faulty.target) = (65_536, 2);
+    try_write("3 of the hunter", &faulty, 3);
+    faulty.hunter = 2;
+    try_write("4 before an earlier 5", &faulty, 4);
+    faulty.plan[8] = 255;
+    try_write("5", &faulty, 5);
+    faulty.plan[1] = 250;
+    try_write("8", &faulty, 8);
+    faulty.actions[0] = 4;
+    try_write("7", &faulty, 7);
+}
+
+/// Which actions the writer takes, and how many.
+fn actions_of_the_writer(count: &mut Count) {
+    let mut try_actions = |what: &str, width: u64, actions: Vec<u8>, answer: Result<usize, u8>| {
+        let plan = even_plan(width, width, 1);
+        let drill = Drill { width, height: width, hunter: 0, target: 0, plan, actions };
+        count.same(what, drill::write(&drill, 70_000).map(|file| file.len()), answer);
+    };
+    for bad in [[0, 0, 0, 0, 0], [5, 0, 0, 0, 0], [2, 0, 0, 1, 0], [3, 0, 0, 0, 1], [4, 1, 0, 0, 0], [4, 0, 1, 0, 0]] {
+        try_actions("badly formed", 2, [[4, 0, 0, 0, 0], bad].concat(), Err(8));
+    }
+    try_actions("other faults are the calls' own", 2, [[1, 255, 255, 255, 0], [3, 255, 255, 0, 0]].concat(), Ok(38));
+    for left_over in 1..5 {
+        try_actions("left over", 2, vec![1; 5 + left_over], Err(8));
+    }
+    for (width, most) in [(64, 9_828), (1, 13_104)] {
+        try_actions("as many as fit", width, [4, 0, 0, 0, 0].repeat(most), Ok(65_536));
+        try_actions("one more", width, [4, 0, 0, 0, 0].repeat(most + 1), Err(8));
+    }
 }
 
 /// Both sides of each edge that the paper names.
