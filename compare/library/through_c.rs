@@ -1,6 +1,7 @@
 //! Plays the same calls through the C interface of the library and through the model of this folder, and compares
 //! after every call: the answer, the record, every table and the way list. Of the queue's list and places the
 //! order is free; which cells they name is compared, and that the library's are a true heap is checked by the model.
+//! Drills are written by both too, and every byte of the room is compared.
 //!
 //! `through_c [PERCENT [SEED]]` plays so much of what the test command plays (100 if not given), all drawn from SEED.
 //! It prints what it played; at the first difference it prints the call with its tables and fails.
@@ -15,6 +16,8 @@ mod queue_breaks;
 #[path = "../../include/rongdhesi.rs"]
 #[allow(dead_code)]
 mod rongdhesi;
+mod writing;
+mod written;
 
 use breaks::play_broken;
 use compare::calls::{Call, Counts, Player, Side};
@@ -24,6 +27,7 @@ use compare::model::{cells_of, ABSENT, INFINITE};
 use compare::rounds::{opened, play_long, play_long_with_doors, play_round};
 use flips::play_flipped;
 use pair::Pair;
+use writing::write_drills;
 
 /// Sessions of every width and every height from 1 to 64, thin ones among them.
 fn play_sizes(seed: u64, percent: u64, counts: &mut Counts) {
@@ -155,5 +159,11 @@ fn main() {
         );
         all += counts.calls;
     }
+    let writing = write_drills(seed, percent);
+    println!(
+        "drills written, every byte of the room looked at: {} calls; written {}, refused by number {:?}",
+        writing.calls, writing.written, writing.refused
+    );
+    all += writing.calls;
     println!("{} calls through the C interface, each as the model's", all);
 }
