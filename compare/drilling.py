@@ -1,8 +1,12 @@
-"""What compare/drills and compare/fuzz share: drill files, a run of the runner or of the model, and what is told of a difference."""
+"""What compare/drills and compare/fuzz share.
+
+Drill files, runs of the runner, of the model and of the writer, and what is told of a difference.
+"""
 
 import collections
 import itertools
 import os
+import re
 import signal
 import subprocess
 import sys
@@ -94,16 +98,24 @@ def drawn_action(cells, chance):
 # Drill files that are there or that the model draws.
 
 
+def drawn_in(text):
+    """The drill file of what a text draws and tells."""
+    make = os.path.join(ROOT, "examples", "make")
+    return subprocess.run([make, text], stdout=subprocess.PIPE, check=True).stdout
+
+
 def examples():
-    """The examples print what stands beside them, and are what their texts draw and tell."""
+    """The examples print what stands beside them, and are what their texts draw and tell. README.md has one too."""
     folder = os.path.join(ROOT, "examples")
     for name in sorted(os.listdir(folder)):
         if os.path.exists(os.path.join(folder, name, "drill")):
-            make = [os.path.join(folder, "make"), os.path.join(folder, name, "README.md")]
             stored = read(os.path.join(folder, name, "drill"))
-            if subprocess.run(make, stdout=subprocess.PIPE, check=True).stdout != stored:
+            if drawn_in(os.path.join(folder, name, "README.md")) != stored:
                 sys.exit(f"{PROGRAM}: examples/{name}/drill is not what its README.md draws and tells")
             yield Case("examples", name, stored, read(os.path.join(folder, name, "prints")))
+    page = os.path.join(ROOT, "README.md")
+    prints = re.search(rb"^```prints\n(.*?)^```$", read(page), re.MULTILINE | re.DOTALL)
+    yield Case("examples", "README.md", drawn_in(page), prints.group(1))
 
 
 def made(models, seed, folder):
@@ -136,7 +148,31 @@ def play(command, stdin=subprocess.DEVNULL):
     return Run(lines, complaint, process.returncode)
 
 
+class Rewriting:
+    """Drills taken apart and written again through the C interface, and what came of it."""
+
+    def __init__(self, models, archive):
+        subprocess.run([os.path.join(ROOT, "compare", "link"), models, archive, "rewrites"], check=True)
+        self.program = os.path.join(models, "rewrites")
+        self.outcomes = []
+
+    def fault(self, path):
+        """What is wrong with a drill that is written again: nothing, or what was wanted and what came."""
+        came = play([self.program, path])
+        if (came.complaint, came.status) != (b"", 0):
+            return "the writer", Run(b"", b"", 0), came
+        self.outcomes.append(came.lines.decode().strip())
+        return None
+
+    def __str__(self):
+        return f"through the C interface {counted(collections.Counter(self.outcomes))}"
+
+
 # The report.
+
+
+def counted(counter):
+    return ", ".join(f"{count:,} {name}" for name, count in sorted(counter.items()))
 
 
 def first_difference(wanted, came):
