@@ -1,5 +1,6 @@
 //! The time of a call, of one process on one set of scenes: the proved library through its C interface, the same in
 //! plain Rust with and without the check of soundness, and A* from scratch. Every answer is compared on the way.
+//! Then a drill is written, by the library and in plain Rust.
 
 #[path = "../../include/rongdhesi.rs"]
 #[allow(dead_code)]
@@ -304,6 +305,40 @@ fn measure_checks() {
     }
 }
 
+/// Writes the largest drill file: 64 by 64 cells and as many searches as fit.
+fn measure_writing() {
+    let scene = scenes::draw(64, Kind::Shut, 0, 20, 99);
+    let actions = [4, 0, 0, 0, 0].repeat(9_828);
+    let first = &scene.turns[0];
+    let (hunter, target) = (first.hunter, first.target);
+    let drill = plain::Drill { width: 64, height: 64, hunter, target, plan: &scene.plan, actions: &actions };
+    let mut rooms = [[0; rongdhesi::GREATEST_FILE]; 3];
+    let [ours, checked, alone] = &mut rooms;
+    let by_library = |room: &mut [u8]| {
+        rongdhesi::write_drill(64, 64, hunter as u64, target as u64, &scene.plan, &actions, room)
+    };
+    let times = [
+        least_time(|| by_library(ours)),
+        least_time(|| drill.write::<true>(checked)),
+        least_time(|| drill.write::<false>(alone)),
+    ];
+    let bytes = by_library(ours).bytes as usize;
+    assert_eq!(Ok(bytes), drill.write::<true>(checked));
+    assert!(ours == checked && checked == alone, "the files differ");
+    println!("| Plan | Searches | Bytes | library | Rust, checked | Rust, copying alone | library / Rust checked | library / copying alone |");
+    println!("|---|---|---|---|---|---|---|---|");
+    println!(
+        "| 64 by 64 | {} | {} | {:.2} | {:.2} | {:.2} | {:.2} | {:.2} |",
+        actions.len() / 5,
+        bytes,
+        times[0],
+        times[1],
+        times[2],
+        times[0] / times[1],
+        times[0] / times[2]
+    );
+}
+
 fn main() {
     println!("Times of a call in microseconds, each at its least of five runs, in which the four take turns.");
     println!();
@@ -312,4 +347,8 @@ fn main() {
     println!("The check alone, the least of 2,000 runs:");
     println!();
     measure_checks();
+    println!();
+    println!("The largest drill file written into a room that is there, the least of 2,000 runs:");
+    println!();
+    measure_writing();
 }

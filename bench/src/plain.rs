@@ -1,5 +1,6 @@
 //! The library's calls once more in plain Rust: the same steps over the same flat tables, with nothing proved.
-//! `CHECKED` says whether a change and a search first test that the tables are sound, as the library does.
+//! `CHECKED` says whether a change and a search first test that the tables are sound, and a drill that is written whether
+//! it is refused, as the library does.
 
 pub const INFINITE: u32 = u32::MAX;
 const ABSENT: u16 = u16::MAX;
@@ -7,6 +8,9 @@ const SHUT: u8 = 255;
 const RENEWAL: u32 = 1_000;
 const GREATEST_ESTIMATE: u32 = 126;
 const GREATEST_GROWTH: u32 = 1_024_250;
+const ACTION: usize = 5;
+const TRAILER: usize = 12;
+const GREATEST_FILE: usize = 65_536;
 
 /// A direction's step in rows and in columns, each plus 1.
 #[derive(Clone, Copy)]
@@ -106,6 +110,103 @@ fn estimate(a: Spot, b: Spot) -> usize {
 /// Is this byte a cost, or shut?
 fn is_byte(byte: u8) -> bool {
     byte != 0 && (byte <= 250 || byte == SHUT)
+}
+
+/// Is every move that would leave the plan shut?
+fn edges_hold(width: usize, height: usize, plan: &[u8]) -> bool {
+    let mut at = Spot { row: 0, column: 0 };
+    for u in 0..width * height {
+        for d in 0..4 {
+            if !stays_in(width, height, at, d) && plan[4 * u + d] != SHUT {
+                return false;
+            }
+        }
+        at = onward(width, at);
+    }
+    true
+}
+
+/// Are these five bytes a well-formed action?
+fn is_action(bytes: &[u8]) -> bool {
+    match bytes[0] {
+        1 => true,
+        2 | 3 => bytes[3] == 0 && bytes[4] == 0,
+        4 => bytes[1..] == [0; 4],
+        _ => false,
+    }
+}
+
+/// A drill in its parts. The actions are bytes, five for each.
+#[derive(Clone, Copy)]
+pub struct Drill<'a> {
+    pub width: usize,
+    pub height: usize,
+    pub hunter: usize,
+    pub target: usize,
+    pub plan: &'a [u8],
+    pub actions: &'a [u8],
+}
+
+impl Drill<'_> {
+    fn length(self) -> usize {
+        self.plan.len() + self.actions.len() + TRAILER
+    }
+
+    /// The number by which the drill is refused, or a room of so many bytes; 0 if neither is.
+    fn refusal(self, room: usize) -> u8 {
+        if self.width == 0 || self.height == 0 || self.width > 64 || self.height > 64 {
+            return 1;
+        }
+        let cells = self.width * self.height;
+        if self.plan.len() != 4 * cells {
+            return 2;
+        }
+        if self.hunter >= cells || self.target >= cells {
+            return 3;
+        }
+        if !edges_hold(self.width, self.height, self.plan) {
+            return 4;
+        }
+        if !self.plan.iter().all(|&byte| is_byte(byte)) {
+            return 5;
+        }
+        let formed = self.actions.len() % ACTION == 0 && self.actions.chunks_exact(ACTION).all(is_action);
+        if !formed || self.length() > GREATEST_FILE {
+            return 8;
+        }
+        if room < self.length() {
+            return 7;
+        }
+        0
+    }
+
+    /// The trailer's twelve bytes.
+    fn trailer(self) -> [u8; TRAILER] {
+        let mut bytes = [0; TRAILER];
+        (bytes[0], bytes[1]) = (self.width as u8, self.height as u8);
+        bytes[2..4].copy_from_slice(&(self.hunter as u16).to_le_bytes());
+        bytes[4..6].copy_from_slice(&(self.target as u16).to_le_bytes());
+        bytes[6..8].copy_from_slice(&((self.actions.len() / ACTION) as u16).to_le_bytes());
+        bytes[8..].copy_from_slice(&(self.plan.len() as u32).to_le_bytes());
+        bytes
+    }
+
+    /// Writes the drill file into the room. Gives its length, or the number by which it is refused.
+    #[inline(never)]
+    pub fn write<const CHECKED: bool>(self, file: &mut [u8]) -> Result<usize, u8> {
+        if CHECKED {
+            let number = self.refusal(file.len());
+            if number != 0 {
+                return Err(number);
+            }
+        }
+        let (plan, rest) = file[..self.length()].split_at_mut(self.plan.len());
+        let (actions, trailer) = rest.split_at_mut(self.actions.len());
+        plan.copy_from_slice(self.plan);
+        actions.copy_from_slice(self.actions);
+        trailer.copy_from_slice(&self.trailer());
+        Ok(self.length())
+    }
 }
 
 /// Does cell a come before cell b in the queue?
