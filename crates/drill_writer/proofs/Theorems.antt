@@ -79,44 +79,45 @@ one-writing {width} {height} {hunter} {target} {plan} {actions} {file} {a} {b} P
 -- ---- what is written is read back
 
 module _ {width height hunter target : ℕ} {plan actions : List ℕ} {room : ℕ} (W : Writable width height hunter target plan actions room) where
-  abbrev n : ℕ
-  n = length actions / 5
+  -- How many actions there are, the bytes that are written, and their trailer.
+  abbrev many : ℕ
+  many = length actions / 5
 
-  abbrev w : List ℕ
-  w = bytesFor width height hunter target plan actions
+  abbrev whole : List ℕ
+  whole = bytesFor width height hunter target plan actions
 
-  abbrev t : Trailer
-  t = trailerFor width height hunter target n
+  abbrev trailer : Trailer
+  trailer = trailerFor width height hunter target many
 
-  small : Small t
+  small : Small trailer
   small =
       let a = area (W .size) in
       record { hunter = omega (arith, a, W .hunter-in); target = omega (arith, a, W .target-in); actions = omega (arith, W .fit .short); offset = omega (arith, a) }
 
-  trailer-is : trailerOf w ≡ t
-  trailer-is = trailer-back plan actions t small
+  trailer-is : trailerOf whole ≡ trailer
+  trailer-is = trailer-back plan actions trailer small
 
-  plan-is : planIn w ≡ plan
+  plan-is : planIn whole ≡ plan
   plan-is =
-      ap (λ (x : Trailer). take (4 * cells x) w) trailer-is
-      ∙ ap (take (4 * (height * width))) (append-assoc plan actions (trailerBytes t))
-      ∙ take-at plan (actions ++ trailerBytes t) (4 * (height * width)) (W .sized)
+      ap (λ (x : Trailer). take (4 * cells x) whole) trailer-is
+      ∙ ap (take (4 * (height * width))) (append-assoc plan actions (trailerBytes trailer))
+      ∙ take-at plan (actions ++ trailerBytes trailer) (4 * (height * width)) (W .sized)
 
-  actions-are : actionsFrom w (4 * (height * width)) n ≡ actionsIn actions
+  actions-are : actionsFrom whole (4 * (height * width)) many ≡ actionsIn actions
   actions-are =
-      ap (λ k. actionsFrom w k n) (omega (arith, W .sized))
-      ∙ actions-there plan actions (trailerBytes t) n 0 (omega (arith, W .fit .whole))
+      ap (λ k. actionsFrom whole k many) (omega (arith, W .sized))
+      ∙ actions-there plan actions (trailerBytes trailer) many 0 (omega (arith, W .fit .whole))
 
-  long : length w ≡ length plan + length actions + 12
+  long : length whole ≡ length plan + length actions + 12
   long = length-written width height hunter target plan actions
 
-  read : t ≡ trailerIn w
+  read : trailer ≡ trailerIn whole
   unfolding trailerIn
-  read = sym trailer-is ∙ sym (choose-yes (decLe 12 (length w)) _ _ (omega (arith, long)))
+  read = sym trailer-is ∙ sym (choose-yes (decLe 12 (length whole)) _ _ (omega (arith, long)))
 
-  form-right : formNumber w ≡ 0
+  form-right : formNumber whole ≡ 0
   form-right =
-      sym (form-of w read (omega (arith, long)) (omega (arith, long, W .fit .short))
+      sym (form-of whole read (omega (arith, long)) (omega (arith, long, W .fit .short))
       (chosen _ _ (W .size)
       (chosen _ _ (refl, omega (arith, long, W .sized, W .fit .whole))
       (chosen _ _ (ap wellFormed actions-are ∙ W .fit .well) refl))))
@@ -129,19 +130,29 @@ module _ {width height hunter target : ℕ} {plan actions : List ℕ} {room : �
       ∙ choose-yes (bytesHold (planOf width height plan)) _ _ (W .bytes)
 
   -- What is written is a file that the reader takes, and the drill in it is the one given.
-  pub read-back : (fileNumber w ≡ 0) × (drillOf w ≡ drillGiven width height hunter target plan actions)
+  pub read-back : (fileNumber whole ≡ 0) × (drillOf whole ≡ drillGiven width height hunter target plan actions)
   read-back = (
-    file-number w form-right
-        ∙ ap (λ (x : Trailer). openNumber (planOf (x .width) (x .height) (planIn w)) (x .hunter) (x .target)) trailer-is
+    file-number whole form-right
+        ∙ ap (λ (x : Trailer). openNumber (planOf (x .width) (x .height) (planIn whole)) (x .hunter) (x .target)) trailer-is
         ∙ ap (λ (x : List ℕ). openNumber (planOf width height x) hunter target) plan-is
         ∙ open-right,
-    ap (λ (x : Trailer). drill x (planIn w) (actionsFrom w (x .offset) (x .actions))) trailer-is
-        ∙ ap (λ (x : List ℕ). drill t x (actionsFrom w (4 * (height * width)) n)) plan-is
-        ∙ ap (drill t plan) actions-are,
+    ap (λ (x : Trailer). drill x (planIn whole) (actionsFrom whole (x .offset) (x .actions))) trailer-is
+        ∙ ap (λ (x : List ℕ). drill trailer x (actionsFrom whole (4 * (height * width)) many)) plan-is
+        ∙ ap (drill trailer plan) actions-are,
   )
     where
       drill : Trailer → List ℕ → List Action → Drill
       drill x p l = record { width = x .width; height = x .height; hunter = x .hunter; target = x .target; plan = p; actions = l }
+
+-- So the reader takes back what a call has written, as the same drill.
+pub taken-back : {width height hunter target n : ℕ} {plan actions file file′ : List ℕ} {r : Written} → Writes width height hunter target plan actions file r file′ → r ≡ Bytes n
+    → (fileNumber (take n file′) ≡ 0) × (drillOf (take n file′) ≡ drillGiven width height hunter target plan actions)
+taken-back {width} {height} {hunter} {target} {n} {plan} {actions} {file} {file′} P e =
+    let W = write-granted plan actions (write-exactly P 0 .0 (ap (λ (x : Written). writtenTold x .refusal) e)) refl in
+    let d = write-done P W in
+    let long : length (bytesFor width height hunter target plan actions) ≡ n = ap (λ (x : Written). writtenTold x .bytes) (sym (d .0) ∙ e) in
+    let first : take n file′ ≡ bytesFor width height hunter target plan actions = ap (take n) (d .1) ∙ take-at _ _ n long in
+    subst (λ (x : List ℕ). (fileNumber x ≡ 0) × (drillOf x ≡ drillGiven width height hunter target plan actions)) (sym first) (read-back W)
 
 -- ---- what is read is written again
 
