@@ -30,12 +30,15 @@ low-pair a b l = omega arith
 high-pair : (a b : ℕ) → a < 65536 → (a + 65536 * b) / 65536 ≡ b
 high-pair a b l = omega arith
 
--- A trailer byte by byte.
-pub trailer-of : (width height hunter target count : ℕ) {a b c d e f g h i j : ℕ} → a ≡ hunter % 256 → b ≡ hunter / 256 % 256 → c ≡ target % 256 → d ≡ target / 256 % 256
-    → e ≡ count % 256 → f ≡ count / 256 % 256 → g ≡ 4 * (height * width) % 65536 % 256 → h ≡ 4 * (height * width) % 65536 / 256 % 256
-    → i ≡ 4 * (height * width) / 65536 % 256 → j ≡ 4 * (height * width) / 65536 / 256 % 256
-    → width ∷ height ∷ a ∷ b ∷ c ∷ d ∷ e ∷ f ∷ g ∷ h ∷ i ∷ j ∷ [] ≡ trailerBytes (trailerFor width height hunter target count)
-trailer-of width height hunter target count a b c d e f g h i j = rw (a, b, c, d, e, f, g, h, i, j)
+-- A trailer byte by byte, where the offset has two bytes and two zeros.
+pub trailer-of : (width height hunter target count : ℕ) {a b c d e f g h : ℕ} → 4 * (height * width) < 65536
+    → a ≡ hunter % 256 → b ≡ hunter / 256 % 256 → c ≡ target % 256 → d ≡ target / 256 % 256
+    → e ≡ count % 256 → f ≡ count / 256 % 256 → g ≡ 4 * (height * width) % 256 → h ≡ 4 * (height * width) / 256 % 256
+    → width ∷ height ∷ a ∷ b ∷ c ∷ d ∷ e ∷ f ∷ g ∷ h ∷ 0 ∷ 0 ∷ [] ≡ trailerBytes (trailerFor width height hunter target count)
+trailer-of width height hunter target count l a b c d e f g h =
+    let low-pair-is : 4 * (height * width) % 65536 ≡ 4 * (height * width) = omega arith in
+    let high-pair-is : 4 * (height * width) / 65536 ≡ 0 = omega arith in
+    rw (a, b, c, d, e, f, g, h, low-pair-is, high-pair-is)
 
 module _ (file : List ℕ) where
   -- From a place on: the byte there, and what follows it ..

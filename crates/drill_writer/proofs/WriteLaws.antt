@@ -1,16 +1,17 @@
 -- What the rules and the answer of a writing settle, and where the file stands in the room.
-use mathlib.Core.Path.{_≡_, refl, sym, ap, _∙_}
+use mathlib.Core.Path.{_≡_, refl, sym, ap, subst, _∙_}
 use mathlib.Core.Logic.{_≢_}
 use mathlib.Core.List.{List, _++_}
 use Prim.Native.Nat.{ℕ, zero, suc, _+_, _≤_, _<_}
 use native.Mathlib.Omega.{arith}
 use lib.ListN.{length, drop, take-append-drop}
+use Rattle.decide.specs.Ruled.{Ruled, Passed}
 use Rattle.decide.proofs.RuledLaws.{passed-one, ruled-one, granted, passed-zero, onward}
 use Rattle.text.specs.Put.{Put}
 use Rattle.drill_writer.specs.declared.Written.{Written}
 use Rattle.drill_writer.specs.declared.Written.the-variants.{Bytes, Refused}
 use Rattle.drill_writer.specs.Drill.{bytesFor}
-use Rattle.drill_writer.specs.Promise.{WriteTold, writtenTold, toldNumber, WriteRules, Writable}
+use Rattle.drill_writer.specs.Promise.{WriteTold, writtenTold, toldNumber, Fit, WriteRules, Writable}
 use Rattle.drill_writer.proofs.PartLaws.{length-three}
 
 -- ---- the room
@@ -19,12 +20,11 @@ use Rattle.drill_writer.proofs.PartLaws.{length-three}
 pub length-written : (width height hunter target : ℕ) (plan actions : List ℕ) → length (bytesFor width height hunter target plan actions) ≡ length plan + length actions + 12
 length-written width height hunter target plan actions = length-three plan actions _
 
--- So much room is enough, and less is too short.
-pub long-enough : (width height hunter target : ℕ) (plan actions : List ℕ) {room : ℕ} → length plan + length actions + 12 ≤ room → length (bytesFor width height hunter target plan actions) ≤ room
-long-enough width height hunter target plan actions l = omega (arith, length-written width height hunter target plan actions)
-
-pub too-short : (width height hunter target : ℕ) (plan actions : List ℕ) {room : ℕ} → (length plan + length actions + 12 ≤ room → ⊥) → length (bytesFor width height hunter target plan actions) ≤ room → ⊥
-too-short width height hunter target plan actions s l = s (omega (arith, l, length-written width height hunter target plan actions))
+-- So the rule of the room, asked by the lengths of plan and actions, is that of the file's length.
+pub by-length : (width height hunter target : ℕ) (plan actions : List ℕ) {room k : ℕ} → Ruled (Fit (length plan) actions) 8 (Ruled (length plan + length actions + 12 ≤ room) 7 Passed) k
+    → Ruled (Fit (length plan) actions) 8 (Ruled (length (bytesFor width height hunter target plan actions) ≤ room) 7 Passed) k
+by-length width height hunter target plan actions {room} {k} =
+    subst (λ n. Ruled (Fit (length plan) actions) 8 (Ruled (n ≤ room) 7 Passed) k) (sym (length-written width height hunter target plan actions))
 
 -- A text put from the first byte on stands first, and the rest of the buffer stays.
 pub put-whole : {b a w : List ℕ} {r : ℕ} → Put b 0 w r a → (r ≡ length w) × (a ≡ w ++ drop (length w) b)

@@ -4,7 +4,8 @@ use plan;
 use text;
 ghost use mathlib.Core.Path.{_≡_};
 ghost use Prim.Native.Nat.{_+_, _/_, _%_, _≤_};
-ghost use Rattle.decide.specs.Decides.{Decides};
+ghost use lib.ListN.{length};
+ghost use Rattle.decide.specs.Ruled.{Ruled, Passed};
 ghost use Rattle.plan.specs.Cells.{Size};
 ghost use Rattle.drill_writer.specs.Drill.{trailerBytes, trailerFor};
 ghost use Rattle.drill_writer.specs.Promise.{Fit, WriteRules, Writes};
@@ -22,32 +23,27 @@ pub enum Written {
     Refused(u8),
 }
 
-// Do the actions fit behind a plan of so many bytes: five bytes for each, not too many, none badly formed?
-fn actions_fit(plan: usize, actions: &[u8]) -> bool
+// The number of the first rule that actions behind a plan of so many bytes and the room for their file break, 0 if none.
+fn actions_refusal(plan: usize, actions: &[u8], room: usize) -> u8
     requires { ⌜ plan ≤ 16384 ⌝ }
-    ensures { λ r. ⌜ Decides r (Fit plan (now (actions .entry))) ⌝ }
+    ensures { λ r. ⌜ Ruled (Fit plan (now (actions .entry))) 8 (Ruled (plan + length (now (actions .entry)) + 12 ≤ room) 7 Passed) r ⌝ }
 {
     let count = actions.len() / ACTION;
+    // A slice has fewer than 2^63 bytes, so this sum does not wrap.
+    let file = plan + actions.len() + TRAILER;
     if ACTION * count != actions.len() {
-        return false;
+        return 8; // what is left over is no action
     }
-    if GREATEST_FILE - TRAILER - plan < actions.len() {
-        return false;
+    if GREATEST_FILE < file {
+        return 8; // more actions than the length allows
     }
-    drill_file::well_formed(actions, 0, count)
-}
-
-// Is there room for a plan and actions of so many bytes, and the trailer?
-fn has_room(plan: usize, actions: usize, room: usize) -> bool
-    ensures { λ r. ⌜ Decides r (plan + actions + 12 ≤ room) ⌝ }
-{
-    if room < TRAILER {
-        return false;
+    if !drill_file::well_formed(actions, 0, count) {
+        return 8; // an action badly formed
     }
-    if room - TRAILER < plan {
-        return false;
+    if room < file {
+        return 7;
     }
-    actions <= room - TRAILER - plan
+    0
 }
 
 // The number of the first rule that a drill and the room for its file break, 0 if none.
@@ -81,15 +77,7 @@ fn refusal(
     if !plan::bytes_hold(width, height, plan) {
         return 5;
     }
-    let fit = actions_fit(plan.len(), actions);
-    let roomy = has_room(plan.len(), actions.len(), room);
-    if !fit {
-        return 8;
-    }
-    if !roomy {
-        return 7;
-    }
-    0
+    actions_refusal(plan.len(), actions, room)
 }
 
 // The low byte of a number ..
@@ -106,7 +94,7 @@ fn high_byte(n: usize) -> u8
     (n / 256 % 256) as u8
 }
 
-// The trailer of a drill of so many actions.
+// The trailer of a drill of so many actions. Their offset is at most 16,384, so its two high bytes are 0.
 fn trailer_bytes(
     width: usize,
     height: usize,
@@ -127,10 +115,10 @@ fn trailer_bytes(
         high_byte(target),
         low_byte(count),
         high_byte(count),
-        low_byte(offset % 65536),
-        high_byte(offset % 65536),
-        low_byte(offset / 65536),
-        high_byte(offset / 65536),
+        low_byte(offset),
+        high_byte(offset),
+        0,
+        0,
     ]
 }
 

@@ -42,29 +42,22 @@ low-byte-requires-4 c κs = search needs
 high-byte-requires-4 : tie.Need-high-byte-requires-4
 high-byte-requires-4 c κs = search needs
 
-low-byte-requires-5 : tie.Need-low-byte-requires-5
-low-byte-requires-5 c κs = search needs
-
-high-byte-requires-5 : tie.Need-high-byte-requires-5
-high-byte-requires-5 c κs = search needs
-
 returns : tie.Need-returns
 returns c =
-    let count = c .before .before .before .before in
+    let count = c .before .before in
     let target = count .before .before in
     let hunter = target .before .before in
-    let s = hunter .before .before .args in
-    trailer-of (s .width) (s .height) (s .hunter) (s .target) (s .count)
+    let start = hunter .before .before in
+    let s = start .args in
+    trailer-of (s .width) (s .height) (s .hunter) (s .target) (s .count) (omega (arith, area (start .pre)))
     (hunter .before .low-byte .ensures)
     (hunter .high-byte .ensures)
     (target .before .low-byte2 .ensures)
     (target .high-byte2 .ensures)
     (count .before .low-byte3 .ensures)
     (count .high-byte3 .ensures)
-    (c .before .before .before .low-byte4 .ensures)
-    (c .before .before .high-byte4 .ensures)
-    (c .before .low-byte5 .ensures)
-    (c .high-byte5 .ensures)
+    (c .before .low-byte4 .ensures)
+    (c .high-byte4 .ensures)
 
 pub trailer-bytes-spec : {M : Type 1} → statement M
 trailer-bytes-spec =
@@ -82,6 +75,4 @@ trailer-bytes-spec =
     high-byte-requires-3
     low-byte-requires-4
     high-byte-requires-4
-    low-byte-requires-5
-    high-byte-requires-5
     returns)
