@@ -9,7 +9,6 @@ use native.Mathlib.Decide.{ℕ-discrete, decLe, decLt}
 use lib.ListN.{length, getD, take, drop, length-drop, drop-of-length-le}
 use lib.Seq.{length-take-le, take-at}
 use Rattle.decide.proofs.ChooseLaws.{choose-yes}
-use Rattle.decide.specs.Ruled.{Ruled, Passed}
 use Rattle.decide.proofs.RuledLaws.{passed-zero, onward}
 use Rattle.plan.specs.Costs.{planOf}
 use Rattle.plan.proofs.MoveLaws.{area}
@@ -22,7 +21,7 @@ use Rattle.drill_file.proofs.NumberLaws.{ruled-number, Formed, formed, file-num
 use Rattle.drill_writer.specs.declared.Written.{Written}
 use Rattle.drill_writer.specs.declared.Written.the-variants.{Bytes, Refused}
 use Rattle.drill_writer.specs.Drill.{Drill, drillOf, actionBytesIn, actionsBytes, actionsIn, trailerBytes, trailerFor, fileOf, drillGiven, bytesFor}
-use Rattle.drill_writer.specs.Promise.{WriteTold, writtenTold, toldNumber, Fit, WriteRules, Writable, Writes}
+use Rattle.drill_writer.specs.Promise.{WriteTold, writtenTold, toldNumber, Fit, ActionRules, WriteRules, Writable, Writes}
 use Rattle.drill_writer.proofs.PartLaws.{actions-there, cut}
 use Rattle.drill_writer.proofs.ActionLaws.{cut-actions, five-each, length-actions}
 use Rattle.drill_writer.proofs.TrailerLaws.{Small, same-trailer, trailer-back, cut-trailer}
@@ -214,8 +213,8 @@ module _ (file : List ℕ) (right : formNumber file ≡ 0) where
       roomy : length (bytesFor (told .width) (told .height) (told .hunter) (told .target) (planIn file) (actionBytesIn file)) ≤ room
       roomy = omega (arith, length-written (told .width) (told .height) (told .hunter) (told .target) (planIn file) (actionBytesIn file), plan-long, actions-long, F .whole, F .offset)
 
-      rest : {k : ℕ} → Ruled (Fit (length (planIn file)) (actionBytesIn file)) 8
-          (Ruled (length (bytesFor (told .width) (told .height) (told .hunter) (told .target) (planIn file) (actionBytesIn file)) ≤ room) 7 Passed) k → k ≡ 0
+      rest : {k : ℕ} → ActionRules (length (planIn file)) (actionBytesIn file)
+          (length (bytesFor (told .width) (told .height) (told .hunter) (told .target) (planIn file) (actionBytesIn file))) room k → k ≡ 0
       rest r = passed-zero (onward roomy (onward fit r))
 
 module _ (file : List ℕ) (octets : (i : ℕ) → getD file i 0 < 256) (taken : fileNumber file ≡ 0) where

@@ -5,13 +5,12 @@ use mathlib.Core.List.{List, _++_}
 use Prim.Native.Nat.{ℕ, zero, suc, _+_, _≤_, _<_}
 use native.Mathlib.Omega.{arith}
 use lib.ListN.{length, drop, take-append-drop}
-use Rattle.decide.specs.Ruled.{Ruled, Passed}
 use Rattle.decide.proofs.RuledLaws.{passed-one, ruled-one, granted, passed-zero, onward}
 use Rattle.text.specs.Put.{Put}
 use Rattle.drill_writer.specs.declared.Written.{Written}
 use Rattle.drill_writer.specs.declared.Written.the-variants.{Bytes, Refused}
 use Rattle.drill_writer.specs.Drill.{bytesFor}
-use Rattle.drill_writer.specs.Promise.{WriteTold, writtenTold, toldNumber, Fit, WriteRules, Writable}
+use Rattle.drill_writer.specs.Promise.{WriteTold, writtenTold, toldNumber, ActionRules, WriteRules, Writable}
 use Rattle.drill_writer.proofs.PartLaws.{length-three}
 
 -- ---- the room
@@ -21,10 +20,10 @@ pub length-written : (width height hunter target : ℕ) (plan actions : List ℕ
 length-written width height hunter target plan actions = length-three plan actions _
 
 -- So the rule of the room, asked by the lengths of plan and actions, is that of the file's length.
-pub by-length : (width height hunter target : ℕ) (plan actions : List ℕ) {room k : ℕ} → Ruled (Fit (length plan) actions) 8 (Ruled (length plan + length actions + 12 ≤ room) 7 Passed) k
-    → Ruled (Fit (length plan) actions) 8 (Ruled (length (bytesFor width height hunter target plan actions) ≤ room) 7 Passed) k
+pub by-length : (width height hunter target : ℕ) (plan actions : List ℕ) {room k : ℕ} → ActionRules (length plan) actions (length plan + length actions + 12) room k
+    → ActionRules (length plan) actions (length (bytesFor width height hunter target plan actions)) room k
 by-length width height hunter target plan actions {room} {k} =
-    subst (λ n. Ruled (Fit (length plan) actions) 8 (Ruled (n ≤ room) 7 Passed) k) (sym (length-written width height hunter target plan actions))
+    subst (λ n. ActionRules (length plan) actions n room k) (sym (length-written width height hunter target plan actions))
 
 -- A text put from the first byte on stands first, and the rest of the buffer stays.
 pub put-whole : {b a w : List ℕ} {r : ℕ} → Put b 0 w r a → (r ≡ length w) × (a ≡ w ++ drop (length w) b)

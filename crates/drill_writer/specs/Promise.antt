@@ -37,7 +37,11 @@ pub record Fit (plan : ℕ) (actions : List ℕ) : Type 0 where
   pub short : plan + length actions + 12 ≤ 65536
   pub well : wellFormed (actionsIn actions) ≡ true
 
--- "1, 2, 3, 4, 5 as at open; 8 for an action badly formed or more actions than the length allows; 7 if the lent room is too short, in that order."
+-- "8 for an action badly formed or more actions than the length allows; 7 if the lent room is too short": of actions behind a plan of so many bytes, and of room for a file of so many.
+abbrev pub ActionRules : ℕ → List ℕ → ℕ → ℕ → ℕ → Type 0
+ActionRules plan actions file room = Ruled (Fit plan actions) 8 (Ruled (file ≤ room) 7 Passed)
+
+-- "1, 2, 3, 4, 5 as at open", then those, "in that order."
 abbrev pub WriteRules : ℕ → ℕ → ℕ → ℕ → List ℕ → List ℕ → ℕ → ℕ → Type 0
 WriteRules width height hunter target plan actions room =
     Ruled (Size width height) 1
@@ -45,9 +49,7 @@ WriteRules width height hunter target plan actions room =
     (Ruled ((hunter < height * width) × (target < height * width)) 3
     (Ruled (Edges (planOf width height plan)) 4
     (Ruled (Bytes (planOf width height plan)) 5
-    (Ruled (Fit (length plan) actions) 8
-    (Ruled (length (bytesFor width height hunter target plan actions) ≤ room) 7
-    Passed))))))
+    (ActionRules (length plan) actions (length (bytesFor width height hunter target plan actions)) room)))))
 
 -- No rule is broken.
 pub record Writable (width height hunter target : ℕ) (plan actions : List ℕ) (room : ℕ) : Type 0 where

@@ -5,10 +5,9 @@ use text;
 ghost use mathlib.Core.Path.{_≡_};
 ghost use Prim.Native.Nat.{_+_, _/_, _%_, _≤_};
 ghost use lib.ListN.{length};
-ghost use Rattle.decide.specs.Ruled.{Ruled, Passed};
 ghost use Rattle.plan.specs.Cells.{Size};
 ghost use Rattle.drill_writer.specs.Drill.{trailerBytes, trailerFor};
-ghost use Rattle.drill_writer.specs.Promise.{Fit, WriteRules, Writes};
+ghost use Rattle.drill_writer.specs.Promise.{ActionRules, WriteRules, Writes};
 
 // The greatest length of a drill file, and the lengths of an action and of the trailer.
 const GREATEST_FILE: usize = 65536;
@@ -26,7 +25,7 @@ pub enum Written {
 // The number of the first rule that actions behind a plan of so many bytes and the room for their file break, 0 if none.
 fn actions_refusal(plan: usize, actions: &[u8], room: usize) -> u8
     requires { ⌜ plan ≤ 16384 ⌝ }
-    ensures { λ r. ⌜ Ruled (Fit plan (now (actions .entry))) 8 (Ruled (plan + length (now (actions .entry)) + 12 ≤ room) 7 Passed) r ⌝ }
+    ensures { λ r. ⌜ ActionRules plan (now (actions .entry)) (plan + length (now (actions .entry)) + 12) room r ⌝ }
 {
     let count = actions.len() / ACTION;
     // A slice has fewer than 2^63 bytes, so this sum does not wrap.

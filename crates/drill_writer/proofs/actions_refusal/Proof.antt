@@ -13,14 +13,6 @@ use Rattle.drill_writer.proofs.actions_refusal.Tie as tie
 abbrev at-start : tie.Else3 → tie.Start
 at-start c = c .before .before .before .before .before
 
--- The actions fit, once each of the three tests was passed.
-fit : (c : tie.Else3) → Fit (at-start c .args .plan) (at-start c .args .actions .now)
-fit c = record {
-  whole = c .before .before .before .if1 .left;
-  short = omega (arith, c .before .before .if2 .left);
-  well = sym (c .before .well-formed .ensures) ∙ not-false _ (c .if3 .left);
-}
-
 add-file : tie.Need-add-file
 add-file c = search needs
 
@@ -41,6 +33,14 @@ well-formed-requires c κs = search needs
 
 returns-3 : tie.Need-returns-3
 returns-3 c = fails (λ F. false≢true (sym (not-true _ (c .if3 .taken)) ∙ c .before .well-formed .ensures ∙ F .well))
+
+-- The actions fit, once each of the three tests was passed.
+fit : (c : tie.Else3) → Fit (at-start c .args .plan) (at-start c .args .actions .now)
+fit c = record {
+  whole = c .before .before .before .if1 .left;
+  short = omega (arith, c .before .before .if2 .left);
+  well = sym (c .before .well-formed .ensures) ∙ not-false _ (c .if3 .left);
+}
 
 returns-4 : tie.Need-returns-4
 returns-4 c = holds (fit (c .before)) (fails (λ l. omega (arith, l, c .if4 .taken)))
