@@ -1,11 +1,13 @@
 #!/usr/bin/env python3
 """Prints what the program queue_trial must print.
 
-It simulates the same operations with a dict from each queued cell to its key, and finds the least by `min`.
+It simulates the same operations with a dict from each queued cell to its rank, and finds the least by `min`.
+A rank is (k1, k2, column, row): "among equal keys the smaller column, then the smaller row".
 It knows nothing of heaps. Store its output as crates/queue_trial/stdout.
 """
 
-SIZES = [1, 2, 3, 4, 5, 7, 8, 63, 64, 1000, 4095, 4096]
+# Each trial's width of the plan and number of cells.
+TRIALS = [(64, size) for size in (1, 2, 3, 4, 5, 7, 8, 63, 64, 1000, 4095, 4096)] + [(7, 1000)]
 
 
 def next_number(x):
@@ -20,12 +22,12 @@ def fold(digest, *numbers):
 
 def fold_cell(queue, cell, digest):
     """A cell, its two key numbers (0 if absent) and whether it is queued."""
-    first, second = queue.get(cell, (0, 0))
+    first, second = queue[cell][:2] if cell in queue else (0, 0)
     return fold(digest, cell, first, second, 1 if cell in queue else 0)
 
 
 def least(queue):
-    return min(queue, key=lambda cell: (queue[cell], cell))
+    return min(queue, key=queue.get)
 
 
 def fold_queue(queue, cell, digest):
@@ -35,19 +37,19 @@ def fold_queue(queue, cell, digest):
     return digest
 
 
-def operate(queue, cell, y):
-    key = (y // 4 % 7 * 700000000, y // 28 % 3)
+def operate(queue, width, cell, y):
+    rank = (y // 4 % 7 * 700000000, y // 28 % 3, cell % width, cell // width)
     if cell not in queue:
-        queue[cell] = key
+        queue[cell] = rank
     elif y % 4 == 0:
         del queue[cell]
     elif y % 4 == 1:
         del queue[least(queue)]
     else:
-        queue[cell] = key
+        queue[cell] = rank
 
 
-def trial(size):
+def trial(width, size):
     queue = {}
     digest = 0
     x = size
@@ -56,14 +58,14 @@ def trial(size):
         x = next_number(x)
         cell = turn if turn < size else x % size
         x = next_number(x)
-        operate(queue, cell, x)
+        operate(queue, width, cell, x)
         digest = fold_queue(queue, cell, digest)
     left = len(queue)
-    for cell in sorted(queue, key=lambda cell: (queue[cell], cell)):
+    for cell in sorted(queue, key=queue.get):
         digest = fold_queue(queue, cell, digest)
         del queue[cell]
-    print(f"size {size}: {turns} operations, {left} left, digest {digest}")
+    print(f"width {width}, size {size}: {turns} operations, {left} left, digest {digest}")
 
 
-for size in SIZES:
-    trial(size)
+for width, size in TRIALS:
+    trial(width, size)

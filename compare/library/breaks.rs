@@ -4,9 +4,10 @@
 use crate::asked::{Alone, Asked};
 use crate::bases::draw_base;
 use crate::edges::{set_entries, set_record};
-use crate::queue_breaks::{break_key, break_list, break_members, break_order, break_place};
+use crate::queue_breaks::{break_key, break_list, break_members, break_order, break_place, break_tied_pair};
 use compare::calls::{Counts, Side};
 use compare::chance::Chance;
+use compare::made::tied_pair;
 use compare::model::{neighbour, opposite, ABSENT, INFINITE, SHUT};
 use compare::rules::{Rule, SINGLE};
 use compare::spoil::cut;
@@ -329,6 +330,8 @@ pub fn play_broken(seed: u64, percent: u64, counts: &mut Counts) {
         let base = draw_base(&mut chance, counts, "broken", width, height, made);
         break_all(&mut Asked::new(base, counts, &mut alone), &mut chance);
     }
+    let (session, tables) = tied_pair();
+    break_tied_pair(&mut Asked::new(Side::with(session, tables), counts, &mut alone));
     println!("rules broken alone: {alone:?}");
     if let Some(rule) = SINGLE.iter().find(|rule| !alone.contains_key(rule)) {
         println!("{rule:?} was never broken alone");

@@ -84,10 +84,10 @@ fn lower_first_key(asked: &mut Asked, first: usize) {
     }
 }
 
-/// Another may be lowered to the key of the cell above it in the heap if its number is greater, and no further.
+/// Another may be lowered to the key of the cell above it in the heap if its column is greater, or in one column its row, and no further.
 fn lower_key(asked: &mut Asked, cell: usize, above: usize) {
     let key = stored(&asked.base, above);
-    if above < cell {
+    if asked.base.spot(above as u16) < asked.base.spot(cell as u16) {
         asked.sound(|side| set_key(side, cell, key));
     } else {
         asked.breaks_alone(Rule::Heap, |side| set_key(side, cell, key));
@@ -145,7 +145,7 @@ fn stands_above(i: usize, j: usize) -> bool {
     at == i
 }
 
-/// "the list is a binary heap by (k1, k2, cell number)", "list and places agree", "each once": two entries exchanged.
+/// "the list is a binary heap" by (k1, k2, column, row), "list and places agree", "each once": two entries exchanged.
 fn break_pair(asked: &mut Asked, i: usize, j: usize) {
     let count = asked.base.session.count as usize;
     if stands_above(i, j) {
@@ -251,7 +251,7 @@ fn settle_hunter(asked: &mut Asked) {
     }
 }
 
-/// All stored keys 0, so that the cell numbers alone order the list; and then its first two exchanged.
+/// All stored keys 0, so that columns and rows alone order the list; and then its first two exchanged.
 fn break_ties(asked: &mut Asked) {
     asked.sound(tie_all);
     if asked.base.session.count > 1 {
@@ -262,10 +262,25 @@ fn break_ties(asked: &mut Asked) {
     }
 }
 
-/// Gives every queued cell the keys 0 and orders the list by cell numbers.
+/// Two cells that wait under one key, the smaller column above: the smaller cell number above is no heap. Different keys decide alone.
+pub fn break_tied_pair(asked: &mut Asked) {
+    asked.sound(|_| ());
+    asked.breaks_alone(Rule::Heap, |side| exchange(side, 0, 1));
+    for lower in [(2, 0), (1, 9)] {
+        asked.breaks_alone(Rule::Heap, |side| set_key(side, 1, lower));
+        asked.sound(|side| {
+            set_key(side, 1, lower);
+            exchange(side, 0, 1);
+        });
+    }
+}
+
+/// Gives every queued cell the keys 0 and orders the list by column, then row.
 fn tie_all(side: &mut Side) {
     let count = side.session.count as usize;
-    side.tables.list[..count].sort();
+    let mut cells = side.tables.list[..count].to_vec();
+    cells.sort_by_key(|&cell| side.spot(cell));
+    side.tables.list[..count].copy_from_slice(&cells);
     for index in 0..count {
         let cell = side.tables.list[index] as usize;
         side.tables.place[cell] = index as u16;

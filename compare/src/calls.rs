@@ -37,6 +37,11 @@ impl Side {
         self.tables.g.len() as u64
     }
 
+    /// A cell's column and row, which order the cells with equal keys in this order.
+    pub fn spot(&self, cell: u16) -> (u64, u64) {
+        (cell as u64 % self.session.width, cell as u64 / self.session.width)
+    }
+
     /// Makes the call in the model.
     pub fn by_model(&mut self, call: Call) -> Answer {
         let (answer, session) = match call {

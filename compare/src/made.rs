@@ -3,7 +3,7 @@
 use crate::chance::Chance;
 use crate::dijkstra::distances;
 use crate::model::{
-    least_entry, neighbour, opposite, wide_key, Session, Tables, ABSENT, INFINITE, SHUT,
+    least_entry, neighbour, opposite, wide_key, Rank, Session, Tables, ABSENT, INFINITE, SHUT,
 };
 
 /// Draws a plan: each inner move is shut with the given chance in hundred, else costs 1 to `range`.
@@ -170,8 +170,8 @@ fn queue_in_random_order(chance: &mut Chance, session: &mut Session, tables: &mu
     for cell in members {
         heap.push(cell);
         let mut at = heap.len() - 1;
-        let key = |c: u16| (tables.k1[c as usize], tables.k2[c as usize], c);
-        while at > 0 && key(heap[at]) < key(heap[(at - 1) / 2]) {
+        let rank = |c: u16| Rank::of(session.width, tables, c);
+        while at > 0 && rank(heap[at]) < rank(heap[(at - 1) / 2]) {
             heap.swap(at, (at - 1) / 2);
             at = (at - 1) / 2;
         }
@@ -183,4 +183,21 @@ fn queue_in_random_order(chance: &mut Chance, session: &mut Session, tables: &mu
         tables.place[cell as usize] = index as u16;
     }
     session.count = heap.len() as u64;
+}
+
+/// Tables of 2 by 2 cells, all moves open at 1, of which only the hunter's cell 0 was lowered on the way to cell 3: cells 1 and 2 wait
+/// under one key, cell 2 (column 0, row 1) above cell 1 (column 1, row 0).
+pub fn tied_pair() -> (Session, Tables) {
+    let session = Session { width: 2, height: 2, target: 3, goal: 3, count: 2, searches: 1, ..Session::default() };
+    let tables = Tables {
+        plan: vec![SHUT, 1, 1, SHUT, SHUT, SHUT, 1, 1, 1, 1, SHUT, SHUT, 1, SHUT, SHUT, 1],
+        g: vec![0, INFINITE, INFINITE, INFINITE],
+        rhs: vec![0, 1, 1, INFINITE],
+        parent: vec![0, 4, 1, 0],
+        k1: vec![0, 2, 2, 0],
+        k2: vec![0, 1, 1, 0],
+        place: vec![ABSENT, 1, 0, ABSENT],
+        list: vec![2, 1, ABSENT, ABSENT],
+    };
+    (session, tables)
 }

@@ -1,6 +1,6 @@
 //! The planner itself: the record, the tables, the soundness check and the calls.
 //!
-//! The queue is an ordered set of (k1, k2, cell), built from the tables when a call starts
+//! The queue is an ordered set of (k1, k2, column, row), built from the tables when a call starts
 //! and written back into list and places when the call ends. The written list is the sorted
 //! order, which is one valid binary heap; the paper leaves the order inside the heap free.
 
@@ -320,7 +320,7 @@ pub fn is_sound(session: &Session, tables: &Tables) -> bool {
     }
 
     // The list: the used places name cells that are placed there, the others are absent,
-    // and it is a binary heap by (k1, k2, cell).
+    // and it is a binary heap by (k1, k2, column, row).
     for index in 0..cells {
         let cell = tables.list[index];
         if index >= count {
@@ -333,7 +333,7 @@ pub fn is_sound(session: &Session, tables: &Tables) -> bool {
             }
             if index > 0 {
                 let above = tables.list[(index - 1) / 2];
-                if whole_key(tables, above) > whole_key(tables, cell) {
+                if Rank::of(session.width, tables, above) > Rank::of(session.width, tables, cell) {
                     return false;
                 }
             }
@@ -342,16 +342,33 @@ pub fn is_sound(session: &Session, tables: &Tables) -> bool {
     true
 }
 
-/// The stored key of a cell together with its number, by which the queue is ordered.
-fn whole_key(tables: &Tables, cell: u16) -> (u32, u32, u16) {
-    (tables.k1[cell as usize], tables.k2[cell as usize], cell)
+/// What the queue orders a cell by: its stored key, and "among equal keys the smaller column, then the smaller row".
+/// Ranks are compared field by field, in the order in which the fields stand.
+#[derive(Clone, Copy, PartialEq, Eq, PartialOrd, Ord)]
+pub struct Rank {
+    key: (u32, u32),
+    column: u64,
+    row: u64,
+}
+
+impl Rank {
+    /// The rank of a cell under its stored key, in a plan of this width.
+    pub fn of(width: u64, tables: &Tables, cell: u16) -> Rank {
+        let key = (tables.k1[cell as usize], tables.k2[cell as usize]);
+        Rank { key, column: cell as u64 % width, row: cell as u64 / width }
+    }
+
+    /// The cell that has this rank.
+    fn cell(&self, width: u64) -> usize {
+        (self.row * width + self.column) as usize
+    }
 }
 
 /// Record and tables while a call works on them, with the queue as an ordered set.
 struct Work<'a> {
     session: Session,
     tables: &'a mut Tables,
-    queue: BTreeSet<(u32, u32, u16)>,
+    queue: BTreeSet<Rank>,
     /// This tells whether any queue entry was set, so that list and places must be written.
     touched: bool,
 }
@@ -362,7 +379,7 @@ impl<'a> Work<'a> {
         let mut queue = BTreeSet::new();
         for cell in 0..tables.place.len() {
             if tables.place[cell] != ABSENT {
-                queue.insert((tables.k1[cell], tables.k2[cell], cell as u16));
+                queue.insert(Rank::of(session.width, tables, cell as u16));
             }
         }
         Work { session: *session, tables, queue, touched: false }
@@ -388,13 +405,16 @@ impl<'a> Work<'a> {
     }
 
     fn is_queued(&self, cell: usize) -> bool {
-        self.queue.contains(&(self.tables.k1[cell], self.tables.k2[cell], cell as u16))
+        self.queue.contains(&self.rank(cell))
+    }
+
+    fn rank(&self, cell: usize) -> Rank {
+        Rank::of(self.session.width, self.tables, cell as u16)
     }
 
     /// Takes a cell out of the queue if it is in it; its key numbers become 0.
     fn take_out(&mut self, cell: usize) {
-        let entry = (self.tables.k1[cell], self.tables.k2[cell], cell as u16);
-        if self.queue.remove(&entry) {
+        if self.queue.remove(&self.rank(cell)) {
             self.touched = true;
         }
         self.tables.k1[cell] = 0;
@@ -406,7 +426,7 @@ impl<'a> Work<'a> {
         self.take_out(cell);
         self.tables.k1[cell] = key.0;
         self.tables.k2[cell] = key.1;
-        self.queue.insert((key.0, key.1, cell as u16));
+        self.queue.insert(self.rank(cell));
         self.touched = true;
     }
 
@@ -521,7 +541,7 @@ impl<'a> Work<'a> {
     fn goes_on(&self) -> bool {
         let goal = self.session.goal as usize;
         let least = match self.queue.first() {
-            Some(&(k1, k2, _)) => (k1, k2),
+            Some(first) => first.key,
             None => (INFINITE, INFINITE),
         };
         least < self.calculated_key(goal) || self.tables.rhs[goal] > self.tables.g[goal]
@@ -529,10 +549,11 @@ impl<'a> Work<'a> {
 
     /// Takes one step on the least cell, and names the step's kind and cell.
     fn step(&mut self) -> (Step, u16) {
-        let &(k1, k2, number) = self.queue.first().expect("a search that goes on has a least cell");
-        let cell = number as usize;
+        let first = *self.queue.first().expect("a search that goes on has a least cell");
+        let cell = first.cell(self.session.width);
+        let number = cell as u16;
         let key = self.calculated_key(cell);
-        if (k1, k2) < key {
+        if first.key < key {
             self.put(cell, key);
             (Step::PutBack, number)
         } else if self.tables.g[cell] > self.tables.rhs[cell] {
@@ -571,9 +592,10 @@ impl<'a> Work<'a> {
         if self.touched {
             self.tables.place.fill(ABSENT);
             self.tables.list.fill(ABSENT);
-            for (index, &(_, _, cell)) in self.queue.iter().enumerate() {
-                self.tables.list[index] = cell;
-                self.tables.place[cell as usize] = index as u16;
+            for (index, rank) in self.queue.iter().enumerate() {
+                let cell = rank.cell(self.session.width);
+                self.tables.list[index] = cell as u16;
+                self.tables.place[cell] = index as u16;
             }
             self.session.count = self.queue.len() as u64;
         }

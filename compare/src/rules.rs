@@ -26,7 +26,7 @@ pub enum Rule {
     Members,
     /// List, places and count agree, and each cell stands in the list at most once.
     Agree,
-    /// The list is a binary heap by (k1, k2, cell).
+    /// The list is a binary heap by (k1, k2, column, row).
     Heap,
     /// Each stored key is not above the calculated key.
     Keys,
@@ -195,8 +195,9 @@ pub fn broken(session: &Session, tables: &Tables) -> Vec<Rule> {
             if below < used {
                 let (up, down) = (tables.list[index], tables.list[below]);
                 if (up as usize) < cells && (down as usize) < cells {
-                    let key = |c: u16| (tables.k1[c as usize], tables.k2[c as usize], c);
-                    if key(down) < key(up) {
+                    let keys = |c: u16| (tables.k1[c as usize], tables.k2[c as usize]);
+                    let spot = |c: u16| (c as u64 % session.width, c as u64 / session.width);
+                    if (keys(down), spot(down)) < (keys(up), spot(up)) {
                         faults.push(Rule::Heap);
                     }
                 }

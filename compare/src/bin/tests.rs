@@ -4,10 +4,10 @@
 use compare::chance::Chance;
 use compare::dijkstra::distances;
 use compare::drill::{self, Drill};
-use compare::made::{draw_plan, sound_tables};
+use compare::made::{draw_plan, sound_tables, tied_pair};
 use compare::model::{
     change, estimate, is_sound, neighbour, open, opposite, place_hunter, place_target, search,
-    search_with_log, Answer, Session, Step, Tables, ABSENT, INFINITE, STEPS,
+    search_with_log, Answer, Rank, Session, Step, Tables, ABSENT, INFINITE, STEPS,
 };
 use compare::play::{checked_search, play};
 use compare::rules::{broken, Rule};
@@ -89,6 +89,7 @@ fn main() {
     changes(&mut count);
     take_over(&mut count);
     steps_in_detail(&mut count);
+    ties(&mut count);
     renewal(&mut count);
     slips(&mut count);
     soundness(&mut count);
@@ -577,13 +578,13 @@ fn changes(count: &mut Count) {
     let (_, session) = search(&session, &mut tables, &mut way);
     count.same("cell 4 was lowered", (tables.g[4], tables.rhs[4]), (2, 2));
     let parent = tables.parent[4];
-    count.same("first offer stands, from the north", parent, 1);
-    let (_, session) = change(&session, &mut tables, 1, 2, 2);
-    count.same("now the west", (tables.rhs[4], tables.parent[4]), (2, 4));
-    let (_, session) = change(&session, &mut tables, 1, 2, 1);
-    count.same("an equal sum is no fall", (tables.rhs[4], tables.parent[4]), (2, 4));
-    let (_, session) = change(&session, &mut tables, 3, 1, 9);
-    count.same("back to the north", (tables.rhs[4], tables.parent[4]), (2, 1));
+    count.same("first offer stands, from the west, whose column is smaller than the north's", parent, 4);
+    let (_, session) = change(&session, &mut tables, 3, 1, 2);
+    count.same("now the north", (tables.rhs[4], tables.parent[4]), (2, 1));
+    let (_, session) = change(&session, &mut tables, 3, 1, 1);
+    count.same("an equal sum is no fall", (tables.rhs[4], tables.parent[4]), (2, 1));
+    let (_, session) = change(&session, &mut tables, 1, 2, 9);
+    count.same("back to the west", (tables.rhs[4], tables.parent[4]), (2, 4));
     count.yes("sound", is_sound(&session, &tables));
 }
 
@@ -691,6 +692,46 @@ fn steps_in_detail(count: &mut Count) {
     session.count = 1;
     count.same("record", after, session);
     count.same("g and rhs", (tables.g, tables.rhs), (vec![5, INFINITE], vec![5, 15]));
+}
+
+/// "Among equal keys we want the smaller column, then the smaller row."
+fn ties(count: &mut Count) {
+    // 2 by 2, all open at 1: cell 2 (column 0, row 1) and cell 1 (column 1, row 0) have equal keys, and cell 2 is taken first.
+    let (session, mut tables) = opened(2, 2, 0, 3, even_plan(2, 2, 1));
+    let (mut way, mut log) = (vec![0; 4], Vec::new());
+    let (answer, _) = checked_search(&session, &mut tables, &mut way, &mut log);
+    count.same("2 by 2", answer, Answer::Way { cost: 2, steps: 3, length: 3 });
+    count.same("the lower left cell first", log, vec![(Step::Lower, 0), (Step::Lower, 2), (Step::Lower, 1)]);
+    count.same("so the way leads there", way[..3].to_vec(), vec![0, 2, 3]);
+    // Six cells with equal keys, in plans of each width. In one row and in one column the order is that of the cell numbers.
+    for (width, wanted) in [
+        (1, [0, 1, 2, 3, 4, 5]),
+        (2, [0, 2, 4, 1, 3, 5]),
+        (3, [0, 3, 1, 4, 2, 5]),
+        (6, [0, 1, 2, 3, 4, 5]),
+    ] {
+        let tables = Tables::filled(Vec::new(), 6, 7);
+        let mut cells = [5, 4, 3, 2, 1, 0];
+        cells.sort_by_key(|&cell| Rank::of(width, &tables, cell));
+        count.same("column, then row", cells, wanted);
+    }
+    // Two cells that wait under one key: in the old order, by cell number, they are no heap any more. Different keys decide alone.
+    let (session, tables) = tied_pair();
+    let mut faults = |what: &str, key_of_1: (u32, u32), first: usize, wanted: Vec<Rule>| {
+        let mut other = tables.clone();
+        (other.k1[1], other.k2[1]) = key_of_1;
+        let second = 3 - first;
+        (other.list[0], other.list[1]) = (first as u16, second as u16);
+        (other.place[first], other.place[second]) = (0, 1);
+        count.same(what, is_sound(&session, &other), wanted.is_empty());
+        count.same(what, broken(&session, &other), wanted);
+    };
+    faults("the smaller column above", (2, 1), 2, vec![]);
+    faults("the smaller cell number above", (2, 1), 1, vec![Rule::Heap]);
+    faults("the lower second key number above", (2, 0), 1, vec![]);
+    faults("the lower second key number below", (2, 0), 2, vec![Rule::Heap]);
+    faults("the lower first key number above", (1, 9), 1, vec![]);
+    faults("the lower first key number below", (1, 9), 2, vec![Rule::Heap]);
 }
 
 /// The search numbers 999 and 1,000.
