@@ -10,16 +10,16 @@ use native.Mathlib.Decide.{decLt}
 use lib.Dec.{ltb}
 use lib.ListN.{getD}
 use borrow.Author.Tests.{ltb-true, ltb-false, lt-ltb}
+use Rattle.decide.proofs.OrderLaws.{less-eq, less-ne}
 use Rattle.method.specs.Numbers.{infinite}
 use Rattle.method.specs.Graph.{GraphLaws}
 use Rattle.method.specs.Tables as method
 use Rattle.method.specs.Course.{Before, LeastCell, Continues}
 use Rattle.method.proofs.Entries.{first-finite, first-infinite}
 use Rattle.method.proofs.Taking.{least-one, least-cell, next-some, next-none}
-use Rattle.queue.specs.Order.{before, tied}
+use Rattle.queue.specs.Order.{before}
 use Rattle.queue.specs.Queue.{LeastOf}
 use Rattle.queue.proofs.MemberLaws.{member-place}
-use Rattle.queue.proofs.OrderLaws.{less-eq, less-ne}
 use Rattle.queue.proofs.QueueLaws.{least-of, least-place}
 use Rattle.plan.proofs.EstimateLaws.{estimate-self}
 use Rattle.tables.specs.Lent.{tables, graphIn, core}
@@ -48,7 +48,7 @@ goal-finite a y p q g n d plan = d ∙ ap (λ x. ltb (method.keyNumber p q) (met
 -- a cell that the method has before another, the queue has before it
 queue-before : (a : Aim) (plan g rhs parent k1 k2 place list : List ℕ) → Words k2
     → (s u : ℕ) → Before (graphIn (frameOf a) plan) (core (tables plan g rhs parent k1 k2 place list)) s u → before (a .width) k1 k2 s u ≡ true
-unfolding before tied
+unfolding before
 queue-before a plan g rhs parent k1 k2 place list w s u (inl x) = at (decLt (getD k1 s 0) (getD k1 u 0))
   where
     at : Dec (getD k1 s 0 < getD k1 u 0) → before (a .width) k1 k2 s u ≡ true

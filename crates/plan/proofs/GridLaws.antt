@@ -1,15 +1,15 @@
 -- The plan's graph has the laws that the method asks.
 use mathlib.Core.Path.{_≡_, refl, sym, ap, subst, _∙_}
-use mathlib.Core.Bool.{true, false}
+use mathlib.Core.Bool.{Bool, true, false}
 use mathlib.Core.Logic.{_⊎_, inl, inr, _≢_}
 use mathlib.Core.List.{List, [], _∷_, _++_, List·Memᴰ, List·Memᴰ·head, List·Memᴰ·not-nil, List·Memᴰ·append-cases, List·Memᴰ·eq-of-singleton, Memᴰ·append-left, Memᴰ·append-right}
 use Prim.Native.Nat.{ℕ, zero, suc, _+_, _≤_, _<_}
 use native.Mathlib.Nat.{mul-le-mul}
 use native.Mathlib.Omega.{arith}
-use native.Mathlib.Decide.{ℕ-discrete, decLt}
-use lib.Dec.{ltb}
-use borrow.Author.Tests.{ltb-true, lt-ltb, le-ltb}
+use native.Mathlib.Decide.{ℕ-discrete}
 use Rattle.decide.specs.Choose.{choose}
+use Rattle.decide.specs.Order.{Order}
+use Rattle.decide.proofs.OrderLaws.{column-order}
 use Rattle.method.specs.Graph.{Move, move, GraphLaws}
 use Rattle.plan.specs.Directions.{opposite}
 use Rattle.plan.specs.Cells.{Size, Stays, stays, entered}
@@ -143,19 +143,14 @@ module _ (p : Plan) (wide : 1 ≤ p .width) where
   one-cost : (s k w c w′ c′ : ℕ) → Open p s k w c → Open p s k w′ c′ → c ≡ c′
   one-cost s k w c w′ c′ o o′ = o .costs ∙ rw (one-from s k w c w′ c′ o o′, one-direction-named s k w c w′ c′ o o′) (sym (o′ .costs))
 
--- By cell number, one of two cells is first.
-before-not-itself : (a : ℕ) → ltb a a ≡ false
-before-not-itself a = le-ltb a a (omega arith)
-
-before-onward : (a b c : ℕ) → ltb a b ≡ true → ltb b c ≡ true → ltb a c ≡ true
-before-onward a b c h k = lt-ltb a c (omega (arith, ltb-true a b h, ltb-true b c k))
-
-before-one : (a b : ℕ) → a ≢ b → (ltb a b ≡ true) ⊎ (ltb b a ≡ true)
-before-one a b ne = at (decLt a b)
+-- Of two different cells one is first.
+one-first : {lt : ℕ → ℕ → Bool} → Order lt → (a b : ℕ) → a ≢ b → (lt a b ≡ true) ⊎ (lt b a ≡ true)
+one-first {lt} order a b ne = at (lt a b) refl (lt b a) refl
   where
-    at : Dec (a < b) → (ltb a b ≡ true) ⊎ (ltb b a ≡ true)
-    at (yes l) = inl (lt-ltb a b l)
-    at (no n) = inr (lt-ltb b a (omega arith))
+    at : (x : Bool) → lt a b ≡ x → (y : Bool) → lt b a ≡ y → (lt a b ≡ true) ⊎ (lt b a ≡ true)
+    at true e y f = inl e
+    at false e true f = inr f
+    at false e false f = absurd (ne (order .total a b e f))
 
 -- The plan, whatever its bytes, is a graph of the method.
 pub graph-laws : (p : Plan) → Size (p .width) (p .height) → GraphLaws (graphOf p)
@@ -175,7 +170,7 @@ graph-laws p z = record {
   symmetric = estimate-symmetric (p .width);
   triangle = estimate-triangle (p .width);
   estimate-le = estimate-le z;
-  not-itself = before-not-itself;
-  onward = before-onward;
-  one-first = before-one;
+  not-itself = column-order (p .width) .irreflexive;
+  onward = column-order (p .width) .transitive;
+  one-first = one-first (column-order (p .width));
 }

@@ -1,8 +1,8 @@
 -- The plan read as a graph of the method: the open moves out of each cell and into it, in direction order.
 use mathlib.Core.List.{List, [], _∷_, _++_}
 use Prim.Native.Nat.{ℕ, zero, suc, _+_}
-use lib.Dec.{ltb}
 use Rattle.decide.specs.Choose.{choose}
+use Rattle.decide.specs.Order.{columnFirst}
 use Rattle.method.specs.Graph.{Move, move, Graph}
 use Rattle.plan.specs.Directions.{opposite}
 use Rattle.plan.specs.Cells.{stays, entered, estimate}
@@ -29,12 +29,12 @@ unfoldable pub upTo : (ℕ → List Move) → ℕ → List Move
 upTo f zero = []
 upTo f (suc d) = upTo f d ++ f d
 
--- The plan's graph. "Neighbours are always visited in this order"; among equal keys the smaller cell number is first.
+-- The plan's graph. "Neighbours are always visited in this order"; among equal keys the smaller column is first, then the smaller row.
 abbrev pub graphOf : Plan → Graph
 graphOf p = record {
   cells = cells p;
   into = λ s. upTo (intoBy p s) 4;
   out = λ u. upTo (outBy p u) 4;
   estimate = estimate (p .width);
-  earlier = λ a b. ltb a b;
+  earlier = columnFirst (p .width);
 }

@@ -6,10 +6,10 @@ use Prim.Native.Nat.{ℕ, _+_, _-_, _≤_, _<_}
 use native.Mathlib.Omega.{arith}
 use lib.ListN.{getD, set, length, length-set}
 use lib.Seq.{getD-set-same, getD-set-other}
+use Rattle.decide.proofs.OrderLaws.{split}
 use Rattle.queue.specs.Order.{before}
 use Rattle.queue.specs.Queue.{absent, members, Agree, Tables, Ordered, Heap, Changed, EntryKept, LeastOf}
 use Rattle.queue.specs.Sift.{Loose, KeepsHeap, Exchanges, placeAfter, listAfter}
-use Rattle.queue.proofs.CaseLaws.{split}
 use Rattle.queue.proofs.OrderLaws.{before-order, before-set}
 use Rattle.queue.proofs.HeapLaws.{Swapped, reset, grow, root}
 use Rattle.queue.proofs.MemberLaws.{present, missing, is-absent, length-members, member-at, members-set, member-place, place-member, set-same}

@@ -5,10 +5,10 @@ use mathlib.Core.List.{List}
 use Prim.Native.Nat.{ℕ, zero, suc, _+_, _-_, _/_, _≤_, _<_}
 use native.Mathlib.Omega.{arith}
 use lib.ListN.{getD}
-use Rattle.queue.specs.Order.{Order}
+use Rattle.decide.specs.Order.{Order}
+use Rattle.decide.proofs.OrderLaws.{split}
 use Rattle.queue.specs.Queue.{Under, Ordered}
 use Rattle.queue.specs.Sift.{Loose, Low, KeepsHeap, Lesser}
-use Rattle.queue.proofs.CaseLaws.{split}
 use Rattle.queue.proofs.OrderLaws.{one-way, not-before}
 
 -- Places i and j of m hold u and v, and every other holds what it holds in l.

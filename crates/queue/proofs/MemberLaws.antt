@@ -9,8 +9,9 @@ use lib.Dec.{eqb}
 use lib.ListN.{getD, set, length, length-map, List·getD-eq-default}
 use lib.Seq.{set-getD, map-set-same}
 use borrow.Author.Tests.{eqb-true, ne-eqb, not-false}
+use Rattle.decide.proofs.OrderLaws.{side}
 use Rattle.queue.specs.Queue.{absent, isPlace, members}
-use Rattle.queue.proofs.CaseLaws.{side, never}
+use Rattle.queue.proofs.CaseLaws.{never}
 
 -- ---- one place
 

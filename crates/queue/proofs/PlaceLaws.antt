@@ -7,9 +7,9 @@ use Prim.Native.Nat.{ℕ, zero, suc, _+_, _<_}
 use native.Mathlib.Omega.{arith}
 use lib.ListN.{getD, set, length, length-set}
 use lib.Seq.{getD-set-same, getD-set-other, lt-length-set}
+use Rattle.decide.proofs.OrderLaws.{split, side}
 use Rattle.queue.specs.Queue.{absent, members, Agree}
 use Rattle.queue.specs.Sift.{placeAfter, listAfter}
-use Rattle.queue.proofs.CaseLaws.{split, side}
 use Rattle.queue.proofs.HeapLaws.{Two, Swapped}
 use Rattle.queue.proofs.MemberLaws.{missing, length-members, member-at, members-set, members-same, place-member, tally, tally-lt, tally-none, tally-less}
 

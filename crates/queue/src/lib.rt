@@ -1,11 +1,12 @@
-// The queue: an indexed binary heap of cells, by (k1, k2, cell number), in tables that the caller lends.
+// The queue: an indexed binary heap of cells, by (k1, k2, column, row), in tables that the caller lends.
 // `list` holds the heap and `place` says where in it each cell is, so a call takes time by the logarithm of the count and passes over no table.
 ghost use mathlib.Core.Path.{_≡_};
 ghost use mathlib.Core.Bool.{true, false};
 ghost use Prim.Native.Nat.{_+_, _<_, _≤_};
 ghost use lib.ListN.{length, getD};
 ghost use Rattle.decide.specs.Decides.{Decides};
-ghost use Rattle.queue.specs.Order.{before, tied};
+ghost use Rattle.decide.specs.Order.{columnFirst};
+ghost use Rattle.queue.specs.Order.{before};
 ghost use Rattle.queue.specs.Queue.{absent, Tables, Ordered, Heap, Changed, EntryKept, LeastOf};
 ghost use Rattle.queue.specs.Rules.{EntryRule, AbsentRule, QueuedRule, Lengths};
 ghost use Rattle.queue.specs.Sift.{Loose, Low, Sifted, Exchanges, placeAfter, listAfter, Keyed, KeyedAt, Compares, Lesser};
@@ -20,11 +21,16 @@ fn wide(x: u16) -> usize
     x as usize
 }
 
-// Does cell a come before cell b where their keys are equal? A tie may read the plan's width; this one need not.
+// Does cell a come before cell b where their keys are equal? The smaller column, then the smaller row.
 fn tie_before(width: usize, a: usize, b: usize) -> bool
     requires { ⌜ 0 < width ⌝ }
-    ensures { λ r. ⌜ r ≡ tied width a b ⌝ }
+    ensures { λ r. ⌜ r ≡ columnFirst width a b ⌝ }
 {
+    let x = a % width;
+    let y = b % width;
+    if x != y {
+        return x < y;
+    }
     a < b
 }
 

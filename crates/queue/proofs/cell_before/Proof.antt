@@ -1,7 +1,7 @@
 -- Each return is one case of the order: k1 differs, k2 differs, or the tie.
 use mathlib.Core.Path.{sym, _∙_}
 use Rattle.queue.specs.Order.{before}
-use Rattle.queue.proofs.OrderLaws.{less-eq, less-ne}
+use Rattle.decide.proofs.OrderLaws.{less-eq, less-ne}
 use borrow.Author.Needs.{needs}
 use Rattle.queue.proofs.cell_before.Statement.{statement}
 use Rattle.queue.proofs.cell_before.Tie as tie
