@@ -5,10 +5,10 @@ use Prim.Native.Nat.{ℕ, _+_, _≤_, _<_}
 use native.Mathlib.Omega.{arith}
 use lib.ListN.{getD, set, length, length-set}
 use lib.Seq.{getD-set-same, getD-set-other}
-use Rattle.queue.specs.Queue.{absent, most, Heap}
-use Rattle.queue.proofs.CaseLaws.{split}
+use Rattle.decide.proofs.OrderLaws.{split}
+use Rattle.queue.specs.Queue.{absent, most}
 use Rattle.queue.proofs.QueueLaws.{empty-heap}
-use Rattle.queue_trial.specs.Trial.{width, Sized}
+use Rattle.queue_trial.specs.Trial.{Sized, Empty}
 
 -- The first i entries of a table hold v.
 pub record Filled (i v : ℕ) (table : List ℕ) : Type 0 where
@@ -53,9 +53,11 @@ more-cleared {i = i} {k1} {k2} {place} {list} b c =
       inList = filled-more (omega (arith, s .lengthList)) (c .inList);
     }
 
-pub all-cleared : {room i : ℕ} {k1 k2 place list : List ℕ} → room ≤ most → room ≤ i → Cleared room i k1 k2 place list → Heap width room 0 k1 k2 place list
-all-cleared b d c =
-    empty-heap (omega arith) b (c .sized .length1) (c .sized .length2) (c .sized .lengthPlace) (c .sized .lengthList)
-    (λ x h. (c .in1 .holds x (omega arith), c .in2 .holds x (omega arith)))
-    (λ x h. c .inPlace .holds x (omega arith))
-    (λ x h. c .inList .holds x (omega arith))
+pub all-cleared : {room i : ℕ} {k1 k2 place list : List ℕ} → room ≤ most → room ≤ i → Cleared room i k1 k2 place list → Empty room k1 k2 place list
+all-cleared b d c = record {
+  heap = λ width wide.
+      empty-heap wide b (c .sized .length1) (c .sized .length2) (c .sized .lengthPlace) (c .sized .lengthList)
+      (λ x h. (c .in1 .holds x (omega arith), c .in2 .holds x (omega arith)))
+      (λ x h. c .inPlace .holds x (omega arith))
+      (λ x h. c .inList .holds x (omega arith));
+}

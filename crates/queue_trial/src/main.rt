@@ -1,13 +1,10 @@
-// Exercises the queue by pseudo-random operations at sizes from 1 to 4,096 cells, and prints a digest of what it answers.
+// Exercises the queue by pseudo-random operations at sizes from 1 to 4,096 cells and two widths of the plan, and prints a digest of what it answers.
 // The expected output comes from compare/queue_trial.py, which knows nothing of heaps.
 ghost use mathlib.Core.Path.{_≡_};
 ghost use Prim.Native.Nat.{_+_, _<_, _≤_};
 ghost use lib.ListN.{length};
 ghost use Rattle.queue.specs.Queue.{most, Heap};
-ghost use Rattle.queue_trial.specs.Trial.{width, Sized};
-
-// Any width will do: the queue's tie does not read it.
-const WIDTH: usize = 64;
+ghost use Rattle.queue_trial.specs.Trial.{Sized, Queues, Empty};
 
 // The next number of the generator.
 fn next(x: usize) -> usize {
@@ -47,7 +44,7 @@ fn fold_queue(
     cell: usize,
     digest: usize,
 ) -> usize
-    requires { ⌜ Heap width (length (now list)) count (now k1) (now k2) (now place) (now list) ⌝ }
+    requires { ⌜ Queues (length (now list)) count (now k1) (now k2) (now place) (now list) ⌝ }
     requires { ⌜ cell < length (now list) ⌝ }
 {
     let seen = fold_cell(k1, k2, place, cell, fold(digest, count));
@@ -60,6 +57,7 @@ fn fold_queue(
 
 // Takes out the least cell. Returns the new count.
 fn take_least(
+    width: usize,
     k1: &mut [u32],
     k2: &mut [u32],
     place: &mut [u16],
@@ -72,12 +70,13 @@ fn take_least(
     ensures { λ r. ⌜ r + 1 ≡ count ⌝ }
 {
     let cell = queue::least(list);
-    queue::take_out(WIDTH, k1, k2, place, list, count, cell)
+    queue::take_out(width, k1, k2, place, list, count, cell)
 }
 
 // One operation, as the number y says: an absent cell is put in; of a queued one, it or the least is taken out, or it is put under another key.
 // Few different keys, so that ties are many, over the whole range of key numbers. Returns the new count.
 fn operate(
+    width: usize,
     k1: &mut [u32],
     k2: &mut [u32],
     place: &mut [u16],
@@ -93,20 +92,21 @@ fn operate(
     let first = (y / 4 % 7 * 700000000) as u32;
     let second = (y / 28 % 3) as u32;
     if place[cell] == queue::ABSENT {
-        return queue::put_in(WIDTH, k1, k2, place, list, count, cell, first, second);
+        return queue::put_in(width, k1, k2, place, list, count, cell, first, second);
     }
     if y % 4 == 0 {
-        return queue::take_out(WIDTH, k1, k2, place, list, count, cell);
+        return queue::take_out(width, k1, k2, place, list, count, cell);
     }
     if y % 4 == 1 {
-        return take_least(k1, k2, place, list, count);
+        return take_least(width, k1, k2, place, list, count);
     }
-    queue::put_under(WIDTH, k1, k2, place, list, count, cell, first, second);
+    queue::put_under(width, k1, k2, place, list, count, cell, first, second);
     count
 }
 
 // Empties the queue, least first, and returns the digest with every cell as it leaves.
 fn drain(
+    width: usize,
     k1: &mut [u32],
     k2: &mut [u32],
     place: &mut [u16],
@@ -121,13 +121,14 @@ fn drain(
     while 0 < count {
         let least = queue::least(list);
         digest = fold_queue(k1, k2, place, list, count, least, digest);
-        count = take_least(k1, k2, place, list, count);
+        count = take_least(width, k1, k2, place, list, count);
     }
     digest
 }
 
-// Drains what is left and prints the line of this size.
+// Drains what is left and prints the trial's line.
 fn finish(
+    width: usize,
     k1: &mut [u32],
     k2: &mut [u32],
     place: &mut [u16],
@@ -138,8 +139,10 @@ fn finish(
 )
     requires { ⌜ Heap width (length (now list)) count (now k1) (now k2) (now place) (now list) ⌝ }
 {
-    let digest = drain(k1, k2, place, list, count, seen);
-    io::write_all(1, b"size ");
+    let digest = drain(width, k1, k2, place, list, count, seen);
+    io::write_all(1, b"width ");
+    io::print_decimal(1, width as u64);
+    io::write_all(1, b", size ");
     io::print_decimal(1, list.len() as u64);
     io::write_all(1, b": ");
     io::print_decimal(1, turns as u64);
@@ -162,7 +165,7 @@ fn turn_cell(size: usize, turn: usize, x: usize) -> usize
 }
 
 // Operates on the empty queue, and finishes.
-fn exercise(k1: &mut [u32], k2: &mut [u32], place: &mut [u16], list: &mut [u16])
+fn exercise(width: usize, k1: &mut [u32], k2: &mut [u32], place: &mut [u16], list: &mut [u16])
     requires { ⌜ Heap width (length (now list)) 0 (now k1) (now k2) (now place) (now list) ⌝ }
     requires { ⌜ 0 < length (now list) ⌝ }
 {
@@ -176,18 +179,18 @@ fn exercise(k1: &mut [u32], k2: &mut [u32], place: &mut [u16], list: &mut [u16])
         x = next(x);
         let cell = turn_cell(size, turn, x);
         x = next(x);
-        count = operate(k1, k2, place, list, count, cell, x);
+        count = operate(width, k1, k2, place, list, count, cell, x);
         digest = fold_queue(k1, k2, place, list, count, cell, digest);
         turn += 1;
     }
-    finish(k1, k2, place, list, count, turns, digest);
+    finish(width, k1, k2, place, list, count, turns, digest);
 }
 
 // Gives the tables the values of an empty queue.
 fn clear(k1: &mut [u32], k2: &mut [u32], place: &mut [u16], list: &mut [u16])
     requires { ⌜ Sized (length (now list)) (now k1) (now k2) (now place) (now list) ⌝ }
     requires { ⌜ length (now list) ≤ most ⌝ }
-    ensures { λ _. ⌜ Heap width (length (now (list .entry))) 0 (now (k1 .exit)) (now (k2 .exit)) (now (place .exit)) (now (list .exit)) ⌝ }
+    ensures { λ _. ⌜ Empty (length (now (list .entry))) (now (k1 .exit)) (now (k2 .exit)) (now (place .exit)) (now (list .exit)) ⌝ }
 {
     let mut i = 0;
     while i < list.len() {
@@ -200,21 +203,31 @@ fn clear(k1: &mut [u32], k2: &mut [u32], place: &mut [u16], list: &mut [u16])
 }
 
 // Exercises a queue that is as long as its tables.
-fn trial(k1: &mut [u32], k2: &mut [u32], place: &mut [u16], list: &mut [u16])
+fn trial(width: usize, k1: &mut [u32], k2: &mut [u32], place: &mut [u16], list: &mut [u16])
+    requires { ⌜ 0 < width ⌝ }
     requires { ⌜ Sized (length (now list)) (now k1) (now k2) (now place) (now list) ⌝ }
     requires { ⌜ length (now list) ≤ most ⌝ }
     requires { ⌜ 0 < length (now list) ⌝ }
 {
     clear(k1, k2, place, list);
-    exercise(k1, k2, place, list);
+    exercise(width, k1, k2, place, list);
 }
 
 // Exercises a queue of `size` cells in the first part of the tables.
-fn sized_trial(k1: &mut [u32], k2: &mut [u32], place: &mut [u16], list: &mut [u16], size: usize)
+fn sized_trial(
+    width: usize,
+    k1: &mut [u32],
+    k2: &mut [u32],
+    place: &mut [u16],
+    list: &mut [u16],
+    size: usize,
+)
+    requires { ⌜ 0 < width ⌝ }
     requires { ⌜ Sized most (now k1) (now k2) (now place) (now list) ⌝ }
     requires { ⌜ (0 < size) × (size ≤ most) ⌝ }
 {
     trial(
+        width,
         &mut k1[0..size],
         &mut k2[0..size],
         &mut place[0..size],
@@ -242,22 +255,23 @@ fn size_of(i: usize) -> usize
     }
 }
 
-// One trial of each size.
+// One trial of each size, all in a plan of the greatest width.
 fn trials(k1: &mut [u32], k2: &mut [u32], place: &mut [u16], list: &mut [u16])
     requires { ⌜ Sized most (now k1) (now k2) (now place) (now list) ⌝ }
 {
     let mut i = 0;
     while i < 12 {
-        sized_trial(k1, k2, place, list, size_of(i));
+        sized_trial(64, k1, k2, place, list, size_of(i));
         i += 1;
     }
 }
 
-// Owns the tables. They are full of zeros, so each trial clears its part first.
+// Owns the tables. They are full of zeros, so each trial clears its part first. The last is in a plan of another width.
 fn main() {
     let mut k1 = [0u32; 4096];
     let mut k2 = [0u32; 4096];
     let mut place = [0u16; 4096];
     let mut list = [0u16; 4096];
     trials(&mut k1, &mut k2, &mut place, &mut list);
+    sized_trial(7, &mut k1, &mut k2, &mut place, &mut list, 1000);
 }

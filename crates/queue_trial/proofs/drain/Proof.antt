@@ -5,15 +5,14 @@ use borrow.Author.Needs.{needs}
 use lib.ListN.{length}
 use Rattle.queue.specs.Queue.{Heap}
 use Rattle.queue.proofs.QueueLaws.{heap-as, heap-own, least-place}
-use Rattle.queue_trial.specs.Trial.{width}
 use Rattle.queue_trial.proofs.drain.Statement.{statement}
 use Rattle.queue_trial.proofs.drain.Tie as tie
 
 abbrev Inv-loop : tie.InvT-loop
-Inv-loop k1₀ k2₀ place₀ list₀ start seen count₀ digest₀ k1 k2 place list count digest = Heap width (length list₀) count k1 k2 place list
+Inv-loop width k1₀ k2₀ place₀ list₀ start seen count₀ digest₀ k1 k2 place list count digest = Heap width (length list₀) count k1 k2 place list
 
 abbrev μ-loop : tie.MeasureT-loop
-μ-loop k1₀ k2₀ place₀ list₀ start seen count₀ digest₀ k1 k2 place list count digest = count
+μ-loop width k1₀ k2₀ place₀ list₀ start seen count₀ digest₀ k1 k2 place list count digest = count
 
 abbrev at-start : tie.At-loop Inv-loop μ-loop → tie.Start Inv-loop μ-loop
 at-start t = t .before .before .before .before .before
@@ -40,7 +39,7 @@ fold-queue-requires : tie.Need-fold-queue-requires Inv-loop μ-loop
 fold-queue-requires c κs =
     let l = after-least c in
     let h = heap-own (in-loop l .before .loop .inv) in
-    (h, least-place h (in-loop l .loop-test .taken) (l .least .ensures) .0)
+    (record { width = _; heap = h }, least-place h (in-loop l .loop-test .taken) (l .least .ensures) .0)
 
 take-least-requires : tie.Need-take-least-requires Inv-loop μ-loop
 take-least-requires c κs = let i = in-loop (after-least (after-fold-queue c .before)) in (heap-own (i .before .loop .inv), i .loop-test .taken)

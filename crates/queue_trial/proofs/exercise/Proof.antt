@@ -6,15 +6,14 @@ use borrow.Author.Needs.{needs}
 use lib.ListN.{length}
 use Rattle.queue.specs.Queue.{Heap}
 use Rattle.queue.proofs.QueueLaws.{heap-as, heap-own}
-use Rattle.queue_trial.specs.Trial.{width}
 use Rattle.queue_trial.proofs.exercise.Statement.{statement}
 use Rattle.queue_trial.proofs.exercise.Tie as tie
 
 abbrev Inv-loop : tie.InvT-loop
-Inv-loop k1₀ k2₀ place₀ list₀ size turns x₀ count₀ digest₀ turn₀ k1 k2 place list x count digest turn = Heap width (length list₀) count k1 k2 place list
+Inv-loop width k1₀ k2₀ place₀ list₀ size turns x₀ count₀ digest₀ turn₀ k1 k2 place list x count digest turn = Heap width (length list₀) count k1 k2 place list
 
 abbrev μ-loop : tie.MeasureT-loop
-μ-loop k1₀ k2₀ place₀ list₀ size turns x₀ count₀ digest₀ turn₀ k1 k2 place list x count digest turn = turns - turn
+μ-loop width k1₀ k2₀ place₀ list₀ size turns x₀ count₀ digest₀ turn₀ k1 k2 place list x count digest turn = turns - turn
 
 abbrev at-start : tie.At-loop Inv-loop μ-loop → tie.Start Inv-loop μ-loop
 at-start t = t .before .before .before .before .before
@@ -60,7 +59,7 @@ fold-queue-requires : tie.Need-fold-queue-requires Inv-loop μ-loop
 fold-queue-requires c κs =
     let o = after-operate c .operate .ensures in
     let t = after-turn-cell (after-operate c) in
-    (heap-own o, omega (arith, t .turn-cell .ensures, o .tables .agree .lengthList, in-loop t .before .loop .inv .tables .agree .lengthList))
+    (record { width = _; heap = heap-own o }, omega (arith, t .turn-cell .ensures, o .tables .agree .lengthList, in-loop t .before .loop .inv .tables .agree .lengthList))
 
 add-turn : tie.Need-add-turn Inv-loop μ-loop
 add-turn c = let i = in-loop (after-turn-cell (after-operate (c .before))) in omega (arith, i .loop-test .taken, at-start (i .before) .pre .0 .tables .agree .small)
@@ -79,20 +78,20 @@ finish-requires c κs = heap-own (c .before .before .before .before .before .loo
 same-length : tie.Need-same-length Inv-loop μ-loop
 same-length c =
     let l = at-end (after-finish c) in
-    after-finish c .finish .kept .0 ∙ l .loop .inv .tables .length1 ∙ sym (at-start l .pre .0 .tables .length1)
+    after-finish c .finish .kept .1 .0 ∙ l .loop .inv .tables .length1 ∙ sym (at-start l .pre .0 .tables .length1)
 
 same-length-2 : tie.Need-same-length-2 Inv-loop μ-loop
 same-length-2 c =
     let l = at-end (after-finish c) in
-    after-finish c .finish .kept .1 .0 ∙ l .loop .inv .tables .length2 ∙ sym (at-start l .pre .0 .tables .length2)
+    after-finish c .finish .kept .1 .1 .0 ∙ l .loop .inv .tables .length2 ∙ sym (at-start l .pre .0 .tables .length2)
 
 same-length-3 : tie.Need-same-length-3 Inv-loop μ-loop
 same-length-3 c =
     let l = at-end (after-finish c) in
-    after-finish c .finish .kept .1 .1 .0 ∙ l .loop .inv .tables .agree .lengthPlace ∙ sym (at-start l .pre .0 .tables .agree .lengthPlace)
+    after-finish c .finish .kept .1 .1 .1 .0 ∙ l .loop .inv .tables .agree .lengthPlace ∙ sym (at-start l .pre .0 .tables .agree .lengthPlace)
 
 same-length-4 : tie.Need-same-length-4 Inv-loop μ-loop
-same-length-4 c = after-finish c .finish .kept .1 .1 .1 .0 ∙ at-end (after-finish c) .loop .inv .tables .agree .lengthList
+same-length-4 c = after-finish c .finish .kept .1 .1 .1 .1 .0 ∙ at-end (after-finish c) .loop .inv .tables .agree .lengthList
 
 returns : tie.Need-returns Inv-loop μ-loop
 returns c = search needs

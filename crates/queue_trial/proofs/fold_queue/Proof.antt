@@ -23,7 +23,7 @@ least-requires c κs = search needs
 
 fold-cell-requires-2 : tie.Need-fold-cell-requires-2
 fold-cell-requires-2 c κs =
-    let h = at-start (c .before) .pre .0 in
+    let h = at-start (c .before) .pre .0 .heap in
     let l = least-place h (omega arith) (c .least .ensures) in
     omega (arith, l .0, h .tables .length1, h .tables .length2, h .tables .agree .lengthPlace)
 

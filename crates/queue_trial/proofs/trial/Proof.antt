@@ -17,8 +17,9 @@ clear-requires c κs = search needs
 exercise-requires : tie.Need-exercise-requires
 exercise-requires c κs =
     let t = after-clear c in
-    let h = t .clear .ensures in
-    (heap-own h, omega (arith, at-start t .pre .1 .1, h .tables .agree .lengthList))
+    let s = at-start t in
+    let h = t .clear .ensures .heap (s .args .width) (s .pre .0) in
+    (heap-own h, omega (arith, s .pre .1 .1 .1, h .tables .agree .lengthList))
 
 same-length : tie.Need-same-length
 same-length c = search needs

@@ -30,7 +30,7 @@ size-of-requires : tie.Need-size-of-requires Inv-loop μ-loop
 size-of-requires c κs = search needs
 
 sized-trial-requires : tie.Need-sized-trial-requires Inv-loop μ-loop
-sized-trial-requires c κs = (in-loop c .before .loop .inv, c .size-of .ensures)
+sized-trial-requires c κs = (omega arith, (in-loop c .before .loop .inv, c .size-of .ensures))
 
 add-i : tie.Need-add-i Inv-loop μ-loop
 add-i c = omega (arith, in-loop (after-sized-trial c .before) .loop-test .taken)
