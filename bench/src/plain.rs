@@ -209,16 +209,26 @@ impl Drill<'_> {
     }
 }
 
+/// Does cell a come before cell b where their keys are equal? The smaller column, then the smaller row.
+#[inline(always)]
+fn tie_before(width: usize, a: usize, b: usize) -> bool {
+    let (x, y) = (a % width, b % width);
+    if x != y {
+        return x < y;
+    }
+    a < b
+}
+
 /// Does cell a come before cell b in the queue?
 #[inline(always)]
-fn cell_before(k1: &[u32], k2: &[u32], a: usize, b: usize) -> bool {
+fn cell_before(width: usize, k1: &[u32], k2: &[u32], a: usize, b: usize) -> bool {
     if k1[a] != k1[b] {
         return k1[a] < k1[b];
     }
     if k2[a] != k2[b] {
         return k2[a] < k2[b];
     }
-    a < b
+    tie_before(width, a, b)
 }
 
 /// Does cell v, with rhs r and parent p, agree with the sum that an open move into it gives, whose parent code is k?
@@ -310,7 +320,7 @@ impl Cut<'_> {
             return true;
         }
         let d = self.list[(i - 1) / 2] as usize;
-        d < self.list.len() && !cell_before(self.k1, self.k2, c, d)
+        d < self.list.len() && !cell_before(self.width, self.k1, self.k2, c, d)
     }
 
     /// Is cell u absent from the queue, and are both its key numbers 0?
@@ -416,7 +426,7 @@ impl Session {
     // ---- the queue
 
     fn place_before(&self, i: usize, j: usize) -> bool {
-        cell_before(&self.k1, &self.k2, self.list[i] as usize, self.list[j] as usize)
+        cell_before(self.width, &self.k1, &self.k2, self.list[i] as usize, self.list[j] as usize)
     }
 
     fn exchange(&mut self, i: usize, j: usize) {

@@ -30,6 +30,8 @@ pub enum Kind {
     Maze,
     /// Rooms of 8 by 8 cells with two doors in each wall between two rooms. Only these doors change.
     Rooms,
+    /// Corridors from west to east, two rows high, with two doors in each wall between two corridors. Only these doors change.
+    Corridors,
 }
 
 impl Kind {
@@ -38,6 +40,7 @@ impl Kind {
             Kind::Shut => "25 % shut",
             Kind::Maze => "maze",
             Kind::Rooms => "rooms",
+            Kind::Corridors => "corridors",
         }
     }
 }
@@ -135,27 +138,34 @@ impl Floor {
                     }
                 }
             }
-            Kind::Rooms => {
-                let (inner, mut walls): (Vec<Door>, Vec<Door>) = all.iter().partition(|door| {
-                    let other = floor.neighbour(door.cell, door.direction).expect("a door has two sides");
-                    floor.room(door.cell) == floor.room(other)
-                });
-                for door in inner {
-                    floor.set(door, 1);
-                }
-                // Sorted so, the eight places for a door in the wall between two rooms stand together.
-                walls.sort_by_key(|door| (floor.room(door.cell), door.direction));
-                floor.doors = walls.chunks(8).flat_map(|wall| [wall[chance.draw(4)], wall[4 + chance.draw(4)]]).collect();
-                for door in floor.doors.clone() {
-                    floor.set(door, 1);
-                }
-            }
+            Kind::Rooms => floor.divide(8, 8, chance),
+            Kind::Corridors => floor.divide(2, side, chance),
         }
         floor
     }
 
-    fn room(&self, cell: usize) -> (usize, usize) {
-        (cell / self.side / 8, cell % self.side / 8)
+    /// Divides the plan into parts of so many rows and columns, open inside, with two doors in each wall between two parts,
+    /// one in each half of it. Only these doors change.
+    fn divide(&mut self, rows: usize, columns: usize, chance: &mut Chance) {
+        let side = self.side;
+        let part = |cell: usize| (cell / side / rows, cell % side / columns);
+        let (inner, mut places): (Vec<Door>, Vec<Door>) = self.all_doors().into_iter().partition(|door| {
+            let other = self.neighbour(door.cell, door.direction).expect("a door has two sides");
+            part(door.cell) == part(other)
+        });
+        // Sorted so, the places for a door in one wall stand together.
+        let wall_of = |door: &Door| (part(door.cell), door.direction);
+        places.sort_by_key(wall_of);
+        let walls = places.chunk_by(|one, next| wall_of(one) == wall_of(next));
+        self.doors = walls
+            .flat_map(|wall| {
+                let half = wall.len() / 2;
+                [wall[chance.draw(half)], wall[half + chance.draw(half)]]
+            })
+            .collect();
+        for door in inner.into_iter().chain(self.doors.clone()) {
+            self.set(door, 1);
+        }
     }
 
     /// Digs a maze: every cell is reached by exactly one way.
