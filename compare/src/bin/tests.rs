@@ -715,7 +715,7 @@ fn ties(count: &mut Count) {
         cells.sort_by_key(|&cell| Rank::of(width, &tables, cell));
         count.same("column, then row", cells, wanted);
     }
-    // Two cells that wait under one key: in the old order, by cell number, they are no heap any more. Different keys decide alone.
+    // Two cells that wait under one key: with the smaller cell number above they are no heap. Different keys decide alone.
     let (session, tables) = tied_pair();
     let mut faults = |what: &str, key_of_1: (u32, u32), first: usize, wanted: Vec<Rule>| {
         let mut other = tables.clone();
