@@ -5,3 +5,4 @@ pub mod GridLaws
 pub mod MoveLaws
 pub mod ChangeLaws
 pub mod RaiseLaws
+pub mod TowardLaws

@@ -5,3 +5,4 @@ pub mod Costs
 pub mod Grid
 pub mod Reached
 pub mod Raise
+pub mod Toward

@@ -9,6 +9,7 @@ ghost use Rattle.plan.specs.Cells.{Size, Stays, apart, entered as entere
 ghost use Rattle.plan.specs.Costs.{IsByte, planOf, Bytes, Edge, Edges, Obeys};
 ghost use Rattle.plan.specs.Grid.{outBy, intoBy};
 ghost use Rattle.plan.specs.Reached.{listed, At, Placed, EdgeAsked, between};
+ghost use Rattle.plan.specs.Toward.{Leads, Toward};
 
 // The byte of a shut move.
 pub const SHUT: u8 = 255;
@@ -268,4 +269,31 @@ pub fn bytes_hold(width: usize, height: usize, plan: &[u8]) -> bool
         }
     }
     ok
+}
+
+// Does the move in direction d from cell a, which stands at a spot, lead to cell b inside the plan?
+fn leads_to(width: usize, height: usize, a: usize, at: Spot, d: usize, b: usize) -> bool
+    requires { ⌜ Size width height ⌝ }
+    requires { ⌜ (a < height * width) × At width a at × (d < 4) ⌝ }
+    ensures { λ r. ⌜ Decides r (Leads width height a d b) ⌝ }
+{
+    if !stays_in(width, height, at, d) {
+        return false;
+    }
+    entered(width, a, d) == b
+}
+
+// The direction of the move inside the plan that leads from cell a to cell b, 4 if none does.
+pub fn toward(width: usize, height: usize, a: usize, b: usize) -> usize
+    requires { ⌜ Size width height ⌝ }
+    requires { ⌜ a < height * width ⌝ }
+    ensures { λ r. ⌜ Toward width height a b r ⌝ }
+{
+    let at = spot_of(width, a);
+    for d in 0..4 {
+        if leads_to(width, height, a, at, d, b) {
+            return d;
+        }
+    }
+    4
 }

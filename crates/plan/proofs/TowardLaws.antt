@@ -1,0 +1,29 @@
+-- At most one direction leads from a cell to another; a move that leads there at a cost is an open move of the plan's graph.
+use mathlib.Core.Path.{refl, sym, subst, _≡_, _∙_}
+use Prim.Native.Nat.{ℕ, _+_, _≤_}
+use Rattle.method.specs.Graph.{Comes}
+use Rattle.plan.specs.Directions.{opposite}
+use Rattle.plan.specs.Cells.{Stays, entered}
+use Rattle.plan.specs.Costs.{Plan, byte, IsCost}
+use Rattle.plan.specs.Grid.{graphOf}
+use Rattle.plan.specs.Toward.{Leads}
+use Rattle.plan.proofs.DirectionLaws.{opposes}
+use Rattle.plan.proofs.CellLaws.{stays-back, back-again, one-direction as one-step}
+use Rattle.plan.proofs.GridLaws.{into-has}
+
+-- So the byte of the move from a to b is one.
+pub one-direction : {width height a b d e : ℕ} → 1 ≤ width → Leads width height a d b → Leads width height a e b → d ≡ e
+one-direction wide l m = one-step wide (l .direction) (m .direction) (l .stays-in) (m .stays-in) (l .enters ∙ sym (m .enters))
+
+-- An open move from a to b, as b has it: a is its neighbour in the opposite direction.
+pub leads-open : (p : Plan) → 1 ≤ p .width → {a d b : ℕ} → Leads (p .width) (p .height) a d b → IsCost (byte p a d) → Comes (graphOf p) b (opposite d + 1) a (byte p a d)
+leads-open p wide {a} {d} {b} l o =
+    into-has p wide b (opposite d + 1) a (byte p a d) (record {
+      direction = opposite d;
+      small = opposes d (l .direction) .small;
+      named = refl;
+      stays-in = subst (λ v. Stays (p .width) (p .height) v (opposite d)) (l .enters) (stays-back wide (l .direction) (l .stays-in));
+      from = subst (λ v. a ≡ entered (p .width) v (opposite d)) (l .enters) (sym (back-again wide (l .direction) (l .stays-in)));
+      costs = rw (opposes d (l .direction) .back) refl;
+      is-cost = o;
+    })
