@@ -95,7 +95,7 @@ trail-way {H} L {parent} (link {s} {l = l} n m t) (suc links) rest h =
     ∙ sym (append-assoc l (s ∷ []) rest)
 
 -- One more move at the end of a chain.
-chain-more : {G : Graph} {a b e k c d : ℕ} {l : List ℕ} → Chain G a l b d → Comes G e k b c → Chain G a (l ++ (e ∷ [])) e (d + c)
+pub chain-more : {G : Graph} {a b e k c d : ℕ} {l : List ℕ} → Chain G a l b d → Comes G e k b c → Chain G a (l ++ (e ∷ [])) e (d + c)
 chain-more {G} {e = e} {c = c} (stay {a}) m = subst (Chain G a (a ∷ e ∷ []) e) (omega arith) (go m stay)
 chain-more {G} {e = e} {c = c} (go {a} {c = c₁} {d = d₁} {l = l} m₁ w) m = subst (Chain G a (a ∷ (l ++ (e ∷ []))) e) (omega arith) (go m₁ (chain-more w m))
 

@@ -1,0 +1,2 @@
+-- Walks explained: the running cost along a list of cells (Along).
+pub mod Along
