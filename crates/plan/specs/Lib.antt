@@ -4,5 +4,5 @@ pub mod Cells
 pub mod Costs
 pub mod Grid
 pub mod Reached
-pub mod Raise
 pub mod Toward
+pub mod Raise
