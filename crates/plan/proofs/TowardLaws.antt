@@ -1,19 +1,27 @@
--- At most one direction leads from a cell to another; a move that leads there at a cost is an open move of the plan's graph.
-use mathlib.Core.Path.{refl, sym, subst, _≡_, _∙_}
-use Prim.Native.Nat.{ℕ, _+_, _≤_}
+-- At most one direction leads from a cell to another, and none to itself; a move that leads there at a cost is an open move of the plan's graph.
+use mathlib.Core.Path.{_≡_, refl, sym, ap, subst, _∙_}
+use Prim.Native.Nat.{ℕ, _+_, _/_, _%_, _≤_}
+use native.Mathlib.Omega.{arith}
 use Rattle.method.specs.Graph.{Comes}
 use Rattle.plan.specs.Directions.{opposite}
 use Rattle.plan.specs.Cells.{Stays, entered}
 use Rattle.plan.specs.Costs.{Plan, byte, IsCost}
 use Rattle.plan.specs.Grid.{graphOf}
-use Rattle.plan.specs.Toward.{Leads}
+use Rattle.plan.specs.Toward.{Leads, Neighbours}
 use Rattle.plan.proofs.DirectionLaws.{opposes}
-use Rattle.plan.proofs.CellLaws.{stays-back, back-again, one-direction as one-step}
+use Rattle.plan.proofs.CellLaws.{enters, stays-back, back-again, one-direction as one-step}
 use Rattle.plan.proofs.GridLaws.{into-has}
 
 -- So the byte of the move from a to b is one.
 pub one-direction : {width height a b d e : ℕ} → 1 ≤ width → Leads width height a d b → Leads width height a e b → d ≡ e
 one-direction wide l m = one-step wide (l .direction) (m .direction) (l .stays-in) (m .stays-in) (l .enters ∙ sym (m .enters))
+
+-- No cell is its own neighbour: a step leads one row or one column away.
+pub not-its-own : {width height a : ℕ} → 1 ≤ width → Neighbours width height a a → ⊥
+not-its-own {width} wide n =
+    let l = n .leads in
+    let E = enters wide (l .stays-in) in
+    omega (arith, E .to-row, E .to-column, ap (λ x. x / width) (l .enters), ap (λ x. x % width) (l .enters), opposes (n .direction) (l .direction) .one-away)
 
 -- An open move from a to b, as b has it: a is its neighbour in the opposite direction.
 pub leads-open : (p : Plan) → 1 ≤ p .width → {a d b : ℕ} → Leads (p .width) (p .height) a d b → IsCost (byte p a d) → Comes (graphOf p) b (opposite d + 1) a (byte p a d)

@@ -27,7 +27,7 @@ fn cells_inside(n: usize, cells: &[u16]) -> bool
     true
 }
 
-// Is each listed pair neighbours? No cell is its own neighbour.
+// Are the two cells of each listed pair neighbours? No cell is its own.
 fn all_joined(width: usize, height: usize, cells: &[u16]) -> bool
     requires { ⌜ Size width height ⌝ }
     requires { ⌜ (1 ≤ length (now cells)) × Listed (height * width) (now cells) ⌝ }
