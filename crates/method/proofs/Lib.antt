@@ -16,5 +16,6 @@ pub mod Readying
 pub mod Searching
 pub mod Growth
 pub mod Theorems
+pub mod Fresh
 pub mod Appending
 pub mod Drill

@@ -10,7 +10,7 @@ use Rattle.plan.specs.Grid.{graphOf}
 use Rattle.plan.specs.Toward.{Leads, Neighbours}
 use Rattle.plan.proofs.DirectionLaws.{opposes}
 use Rattle.plan.proofs.CellLaws.{enters, stays-back, back-again, one-direction as one-step}
-use Rattle.plan.proofs.GridLaws.{into-has}
+use Rattle.plan.proofs.GridLaws.{into-is, into-has}
 
 -- So the byte of the move from a to b is one.
 pub one-direction : {width height a b d e : ℕ} → 1 ≤ width → Leads width height a d b → Leads width height a e b → d ≡ e
@@ -35,3 +35,17 @@ leads-open p wide {a} {d} {b} l o =
       costs = rw (opposes d (l .direction) .back) refl;
       is-cost = o;
     })
+
+-- And every open move from a to b is such a one.
+pub open-leads : (p : Plan) → 1 ≤ p .width → {b k a c : ℕ} → Comes (graphOf p) b k a c → (d : ℕ) × Leads (p .width) (p .height) a d b × (c ≡ byte p a d)
+open-leads p wide {b} {k} {a} {c} i =
+    let o = into-is p wide b k a c i in
+    let d = opposite (o .direction) in (
+      d,
+      record {
+        direction = opposes (o .direction) (o .small) .small;
+        stays-in = subst (λ x. Stays (p .width) (p .height) x d) (sym (o .from)) (stays-back wide (o .small) (o .stays-in));
+        enters = subst (λ x. entered (p .width) x d ≡ b) (sym (o .from)) (back-again wide (o .small) (o .stays-in));
+      },
+      o .costs,
+    )

@@ -1,2 +1,5 @@
 pub mod AlongLaws
 pub mod AlongTheorems
+pub mod FreshLaws
+pub mod ThroughLaws
+pub mod ThroughTheorems

@@ -1,2 +1,3 @@
--- Walks explained: the running cost along a list of cells (Along).
+-- What a walk over a plan costs: the running cost along a list of cells (Along), and the least of any walk through a named move (Through).
 pub mod Along
+pub mod Through
