@@ -2,31 +2,36 @@
 use mathlib.Core.Path.{_≡_, refl, sym, ap, _∙_}
 use mathlib.Core.Logic.{_≢_, _⊎_, inl, inr}
 use mathlib.Core.List.{List, [], _∷_, List·Memᴰ, List·Memᴰ·head, List·Memᴰ·tail, List·Memᴰ·not-nil, List·Memᴰ·cases-cons}
-use Prim.Native.Nat.{ℕ, zero, suc, _+_, _-_, _*_, _/_, _%_, _^_, _≤_, _<_}
+use Prim.Native.Nat.{ℕ, zero, suc, _+_, _*_, _/_, _%_, _^_, _≤_, _<_}
 use native.Mathlib.Nat.{pow-suc, div-one, mod-lt, suc-mul, zero-mul, add-suc, add-zero}
 use native.Mathlib.Decide.{ℕ-discrete}
 use native.Mathlib.Numerals.{one-add, add-one}
 use native.Mathlib.Omega.{arith}
 use lib.Arith.{digits-div, digits-mod}
 use lib.Count.{ones, ones-step, ones-le}
-use lib.ListN.{length, getD, set}
-use lib.Pow.{pow-pos, shr-shr}
-use lib.Seq.{getD-set-same, getD-set-other}
+use lib.ListN.{length, getD}
+use lib.Pow.{pow-pos, shl-exact, shr-shr}
 use Rattle.method.specs.Walk.{Once, none-yet, one-more}
 use Rattle.reach.specs.Bits.{bit, bitOf, onesOf, sumTo}
+
+-- ---- one number
 
 -- A bit above the lowest is one of the half.
 pub bit-zero : (x : ℕ) → bit x 0 ≡ x % 2
 unfolding bit
 bit-zero x = ap (λ y. y % 2) (div-one x)
 
-pub bit-suc : (x c : ℕ) → bit x (suc c) ≡ bit (x / 2) c
+bit-suc : (x c : ℕ) → bit x (suc c) ≡ bit (x / 2) c
 unfolding bit
 bit-suc x c = ap (λ y. y % 2) (ap (λ k. x / 2 ^ k) (sym (one-add c)) ∙ sym (shr-shr x 1 c))
 
-pub bit-le : (x c : ℕ) → bit x c ≤ 1
+bit-le : (x c : ℕ) → bit x c ≤ 1
 unfolding bit
 bit-le x c = omega (arith, mod-lt (x / 2 ^ c) (pow-pos 1))
+
+pub bit-none : (c : ℕ) → bit 0 c ≡ 0
+bit-none zero = bit-zero 0
+bit-none (suc c) = bit-suc 0 c ∙ bit-none c
 
 -- The half of a sum with a power, and its lowest bit.
 half-sum : (x c : ℕ) → (x + 2 ^ suc c) / 2 ≡ x / 2 + 2 ^ c
@@ -35,6 +40,7 @@ half-sum x c = omega (arith, pow-suc 2 c)
 even-sum : (x c : ℕ) → (x + 2 ^ suc c) % 2 ≡ x % 2
 even-sum x c = omega (arith, pow-suc 2 c)
 
+-- A bit that is 0 is set by its power, the others stay, and no higher one is needed.
 pub bit-set : (x c : ℕ) → bit x c ≡ 0 → bit (x + 2 ^ c) c ≡ 1
 bit-set x zero h = omega (arith, bit-zero x, bit-zero (x + 1))
 bit-set x (suc c) h = bit-suc (x + 2 ^ suc c) c ∙ rw (half-sum x c) (bit-set (x / 2) c (sym (bit-suc x c) ∙ h))
@@ -49,15 +55,6 @@ bit-other x (suc c) zero h n = bit-zero (x + 2 ^ suc c) ∙ even-sum x c ∙ sym
 bit-other x (suc c) (suc k) h n =
     bit-suc (x + 2 ^ suc c) k ∙ rw (half-sum x c) (bit-other (x / 2) c k (sym (bit-suc x c) ∙ h) (λ e. n (ap suc e))) ∙ sym (bit-suc x k)
 
-pub ones-set : (x c : ℕ) → bit x c ≡ 0 → ones (x + 2 ^ c) ≡ ones x + 1
-ones-set x zero h = omega (arith, bit-zero x, ones-step x, ones-step (x + 1), ap ones e)
-  where
-    e : (x + 1) / 2 ≡ x / 2
-    e = omega (arith, bit-zero x)
-ones-set x (suc c) h =
-    let ih : ones (x / 2 + 2 ^ c) ≡ ones (x / 2) + 1 = ones-set (x / 2) c (sym (bit-suc x c) ∙ h) in
-    omega (arith, ones-step x, ones-step (x + 2 ^ suc c), ap ones (half-sum x c), even-sum x c)
-
 pub set-narrow : (x c w : ℕ) → bit x c ≡ 0 → c < w → x < 2 ^ w → x + 2 ^ c < 2 ^ w
 set-narrow x c zero h l b = absurd (omega arith)
 set-narrow x zero (suc w) h l b = omega (arith, bit-zero x, pow-suc 2 w)
@@ -65,33 +62,43 @@ set-narrow x (suc c) (suc w) h l b =
     let ih : x / 2 + 2 ^ c < 2 ^ w = set-narrow (x / 2) c w (sym (bit-suc x c) ∙ h) (omega arith) (omega (arith, pow-suc 2 w)) in
     omega (arith, pow-suc 2 w, pow-suc 2 c)
 
--- A row past the first n is not among them.
-onesOf-past : (rows : List ℕ) (r y n : ℕ) → n ≤ r → onesOf (set rows r y) n ≡ onesOf rows n
-unfolding onesOf
-onesOf-past rows r y zero l = refl
-onesOf-past rows r y (suc n) l = rw (onesOf-past rows r y n (omega arith), getD-set-other rows r n y 0 (λ e. omega arith)) refl
+-- One shifted up to a column is its power.
+pub one-shifted : (c : ℕ) → c < 64 → (1 * 2 ^ c) % 18446744073709551616 ≡ 2 ^ c
+one-shifted c l = omega (arith, shl-exact {a = 1} 1 c 64 (omega arith) (omega arith))
 
--- One row's ones more, one more of all.
-pub onesOf-set : (rows : List ℕ) (r y n : ℕ) → r < n → r < length rows → ones y ≡ ones (getD rows r 0) + 1 → onesOf (set rows r y) n ≡ onesOf rows n + 1
-unfolding onesOf
-onesOf-set rows r y zero l k e = absurd (omega arith)
-onesOf-set rows r y (suc n) l k e = at (λ m. onesOf-set rows r y n m k e) (ℕ-discrete n r)
-  where
-    at : (r < n → onesOf (set rows r y) n ≡ onesOf rows n + 1) → Dec (n ≡ r) → onesOf (set rows r y) n + ones (getD (set rows r y) n 0) ≡ onesOf rows n + ones (getD rows n 0) + 1
-    at ih (no m) = rw (getD-set-other rows r n y 0 m) (omega (arith, ih (omega arith)))
-    at ih (yes q) = omega (arith, onesOf-past rows r y n (omega arith), ap ones (ap (λ i. getD (set rows r y) i 0) q ∙ getD-set-same rows r y 0 k), ap (λ i. ones (getD rows i 0)) q)
+-- Numbers of w bits are equal when their bits are.
+pub same-bits : (w x y : ℕ) → x < 2 ^ w → y < 2 ^ w → ((c : ℕ) → c < w → bit x c ≡ bit y c) → x ≡ y
+same-bits zero x y a b h = omega arith
+same-bits (suc w) x y a b h =
+    let ih : x / 2 ≡ y / 2 = same-bits w (x / 2) (y / 2) (omega (arith, pow-suc 2 w)) (omega (arith, pow-suc 2 w)) (λ c l. sym (bit-suc x c) ∙ h (suc c) (omega arith) ∙ bit-suc y c) in
+    omega (arith, h 0 (omega arith), bit-zero x, bit-zero y)
 
--- At most a row's width for each row.
-pub onesOf-le : (rows : List ℕ) (w : ℕ) → ((r : ℕ) → getD rows r 0 < 2 ^ w) → (n : ℕ) → onesOf rows n ≤ n * w
-unfolding onesOf
-onesOf-le rows w h zero = omega arith
-onesOf-le rows w h (suc n) = omega (arith, onesOf-le rows w h n, ones-le w (getD rows n 0) (h n), suc-mul n w)
+-- ---- sums
 
--- The ones of a number are the sum of its bits.
 pub sum-same : (f g : ℕ → ℕ) (n : ℕ) → ((i : ℕ) → i < n → f i ≡ g i) → sumTo f n ≡ sumTo g n
 unfolding sumTo
 sum-same f g zero h = refl
 sum-same f g (suc n) h = omega (arith, sum-same f g n (λ i l. h i (omega arith)), h n (omega arith))
+
+-- One place more.
+pub sum-next : (f : ℕ → ℕ) (n : ℕ) {sum : ℕ} → sum ≡ sumTo f n → sum + f n ≡ sumTo f (n + 1)
+unfolding sumTo
+sum-next f n e = rw (add-one n) (omega arith)
+
+-- One more at one place is one more of all.
+pub sum-more : (f g : ℕ → ℕ) (v n : ℕ) → v < n → g v ≡ f v + 1 → ((i : ℕ) → i ≢ v → g i ≡ f i) → sumTo g n ≡ sumTo f n + 1
+unfolding sumTo
+sum-more f g v zero l e h = absurd (omega arith)
+sum-more f g v (suc n) l e h = at (λ m. sum-more f g v n m e h) (ℕ-discrete n v)
+  where
+    at : (v < n → sumTo g n ≡ sumTo f n + 1) → Dec (n ≡ v) → sumTo g n + g n ≡ sumTo f n + f n + 1
+    at ih (no m) = omega (arith, h n m, ih (omega arith))
+    at ih (yes q) = omega (arith, sum-same g f n (λ i k. h i (λ r. omega arith)), rw (← q) at e)
+
+pub sum-none : (f : ℕ → ℕ) → ((i : ℕ) → f i ≡ 0) → (n : ℕ) → sumTo f n ≡ 0
+unfolding sumTo
+sum-none f h zero = refl
+sum-none f h (suc n) = omega (arith, sum-none f h n, h n)
 
 sum-add : (f : ℕ → ℕ) (m n : ℕ) → sumTo f (m + n) ≡ sumTo f m + sumTo (λ i. f (m + i)) n
 unfolding sumTo
@@ -103,6 +110,7 @@ unfolding sumTo
 sum-first f zero = omega arith
 sum-first f (suc n) = omega (arith, sum-first f n)
 
+-- The ones of a number are the sum of its bits ..
 ones-sum : (w x : ℕ) → x < 2 ^ w → ones x ≡ sumTo (bit x) w
 unfolding sumTo
 ones-sum zero x h = omega (arith, ones-le 0 x h)
@@ -110,55 +118,29 @@ ones-sum (suc w) x h =
     let ih : ones (x / 2) ≡ sumTo (bit (x / 2)) w = ones-sum w (x / 2) (omega (arith, pow-suc 2 w)) in
     omega (arith, ones-step x, bit-zero x, sum-first (bit x) w, sum-same (λ i. bit x (suc i)) (bit (x / 2)) w (λ i l. bit-suc x i))
 
--- The ones counts of the rows are the sum of the cells' bits.
-pub ones-cells : (rows : List ℕ) (w : ℕ) → ((r : ℕ) → getD rows r 0 < 2 ^ w) → (n : ℕ) → onesOf rows n ≡ sumTo (bitOf w rows) (n * w)
-unfolding onesOf sumTo bitOf
-ones-cells rows w h zero = rw (zero-mul w) refl
-ones-cells rows w h (suc n) =
-    rw (suc-mul n w)
-    (omega (
-      arith,
-      ones-cells rows w h n,
-      ones-sum w (getD rows n 0) (h n),
-      sum-add (bitOf w rows) (n * w) w,
-      sum-same (λ i. bitOf w rows (n * w + i)) (bit (getD rows n 0)) w (λ i l. rw (digits-div n l, digits-mod n l) refl),
-    ))
-
--- A row of no bits.
-pub bit-none : (c : ℕ) → bit 0 c ≡ 0
-bit-none zero = bit-zero 0
-bit-none (suc c) = bit-suc 0 c ∙ bit-none c
-
-pub onesOf-none : (rows : List ℕ) → ((r : ℕ) → getD rows r 0 ≡ 0) → (n : ℕ) → onesOf rows n ≡ 0
-unfolding onesOf
-onesOf-none rows h zero = refl
-onesOf-none rows h (suc n) = omega (arith, onesOf-none rows h n, ap ones (h n), ones-le 0 0 (pow-pos 0))
-
-pub onesOf-same : (rows′ rows : List ℕ) (n : ℕ) → ((r : ℕ) → r < n → getD rows′ r 0 ≡ getD rows r 0) → onesOf rows′ n ≡ onesOf rows n
-unfolding onesOf
-onesOf-same rows′ rows zero h = refl
-onesOf-same rows′ rows (suc n) h = omega (arith, onesOf-same rows′ rows n (λ r l. h r (omega arith)), ap ones (h n (omega arith)))
-
--- One row more.
-pub ones-more : (rows : List ℕ) (i : ℕ) {sum x : ℕ} → sum ≡ onesOf rows i → x ≡ ones (getD rows i 0) → sum + x ≡ onesOf rows (i + 1)
-unfolding onesOf
-ones-more rows i e q = rw (add-one i) (omega (arith, e, q))
-
--- Numbers of w bits are equal when their bits are.
-pub same-bits : (w x y : ℕ) → x < 2 ^ w → y < 2 ^ w → ((c : ℕ) → c < w → bit x c ≡ bit y c) → x ≡ y
-same-bits zero x y a b h = omega arith
-same-bits (suc w) x y a b h =
-    let ih : x / 2 ≡ y / 2 = same-bits w (x / 2) (y / 2) (omega (arith, pow-suc 2 w)) (omega (arith, pow-suc 2 w)) (λ c l. sym (bit-suc x c) ∙ h (suc c) (omega arith) ∙ bit-suc y c) in
-    omega (arith, h 0 (omega arith), bit-zero x, bit-zero y)
-
--- The bit of a row's column is that of the cell.
+-- .. and those of the rows the sum of the cells' bits.
 pub row-bit : (w : ℕ) (rows : List ℕ) (r : ℕ) {c : ℕ} → c < w → bitOf w rows (r * w + c) ≡ bit (getD rows r 0) c
 unfolding bitOf
 row-bit w rows r l = rw (digits-div r l, digits-mod r l) refl
 
+pub ones-cells : (rows : List ℕ) (w n : ℕ) → ((r : ℕ) → r < n → getD rows r 0 < 2 ^ w) → onesOf rows n ≡ sumTo (bitOf w rows) (n * w)
+unfolding sumTo
+ones-cells rows w zero h = rw (zero-mul w) refl
+ones-cells rows w (suc n) h =
+    rw (suc-mul n w)
+    (omega (
+      arith,
+      ones-cells rows w n (λ r l. h r (omega arith)),
+      ones-sum w (getD rows n 0) (h n (omega arith)),
+      sum-add (bitOf w rows) (n * w) w,
+      sum-same (λ i. bitOf w rows (n * w + i)) (bit (getD rows n 0)) w (λ i l. row-bit w rows n l),
+    ))
+
 pub bitOf-le : (w : ℕ) (rows : List ℕ) (s : ℕ) → bitOf w rows s ≤ 1
 unfolding bitOf
 bitOf-le w rows s = bit-le (getD rows (s / w) 0) (s % w)
+
+-- ---- as many as the sum
 
 -- The numbers below n whose bit is 1, each once.
 pub record Those (f : ℕ → ℕ) (n : ℕ) : Type 0 where
@@ -200,3 +182,9 @@ those f le (suc n) = at (those f le n) (ℕ-discrete (f n) 1)
         below : (s : ℕ) → s < suc n → f s ≡ 1 → Dec (s ≡ n) → s < n
         below s l q (yes r) = absurd (m (sym (ap f r) ∙ q))
         below s l q (no k) = omega arith
+
+-- So a sum of bits is at most the number of places.
+pub sum-le : (f : ℕ → ℕ) → ((s : ℕ) → f s ≤ 1) → (n : ℕ) → sumTo f n ≤ n
+unfolding sumTo
+sum-le f le zero = omega arith
+sum-le f le (suc n) = omega (arith, sum-le f le n, le n)

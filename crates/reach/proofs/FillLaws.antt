@@ -1,54 +1,54 @@
--- What the fill keeps, and what it has reached at its end.
+-- What can be reached, what the fill keeps from one look to the next, and what it has found at its end.
 use mathlib.Core.Path.{_≡_, refl, sym, ap, subst, _∙_}
-use mathlib.Core.Logic.{_⊎_, inl, inr, _≢_}
+use mathlib.Core.Logic.{_≢_}
 use mathlib.Core.List.{List, [], _∷_, List·Memᴰ, List·Memᴰ·head, List·Memᴰ·not-nil, List·Memᴰ·eq-of-singleton}
-use Prim.Native.Nat.{ℕ, _+_, _/_, _%_, _^_, _≤_, _<_}
+use Prim.Native.Nat.{ℕ, _+_, _*_, _/_, _%_, _^_, _≤_, _<_}
 use native.Mathlib.Nat.{mod-lt, div-add-mod'}
-use native.Mathlib.Decide.{ℕ-discrete}
+use native.Mathlib.Decide.{ℕ-discrete, decLt}
 use native.Mathlib.Omega.{arith}
+use lib.Arith.{digits-lt}
 use lib.ListN.{length, getD, set, length-set}
 use lib.Pow.{pow-pos}
 use lib.Seq.{getD-set-same, getD-set-other}
+use borrow.Author.Count.{below-none, below-more}
 use Rattle.method.specs.Graph.{move, Comes}
 use Rattle.method.specs.Walk.{Chain, stay, go}
 use Rattle.plan.specs.Directions.{opposite}
-use Rattle.plan.specs.Cells.{entered}
+use Rattle.plan.specs.Cells.{Size, Stays, entered}
 use Rattle.plan.specs.Costs.{Plan, cells, byte, shut, Obeys}
 use Rattle.plan.specs.Grid.{outBy, graphOf}
-use Rattle.plan.proofs.CellLaws.{row-lt}
+use Rattle.plan.specs.Reached.{At, Placed}
+use Rattle.plan.specs.declared.Spot.{Spot}
+use Rattle.plan.proofs.CellLaws.{stands-row, stands-column, row-lt}
 use Rattle.plan.proofs.GridLaws.{up-to-is, up-to-has, graph-laws}
-use Rattle.plan.proofs.MoveLaws.{out-shut, out-open}
-use Rattle.reach.specs.Bits.{bit, bitOf, onesOf}
-use Rattle.reach.specs.Reachable.{Reachable, Marked, Part}
-use Rattle.reach.specs.Filling.{Listed, Filled, More, Looked, Looks, New, Only, Clean}
-use Rattle.reach.specs.declared.Fresh.the-variants.{Nothing}
-use Rattle.reach.proofs.BitLaws.{bit-set, bit-other, bit-none, ones-set, set-narrow, onesOf-set, onesOf-le, onesOf-none, onesOf-same, sum-same, ones-cells}
+use Rattle.plan.proofs.MoveLaws.{out-shut, out-open, open-stays, spot-placed, entered-in}
+use Rattle.reach.specs.Bits.{bit, bitOf, Marked, sumTo}
+use Rattle.reach.specs.Reachable.{Reachable, Part}
+use Rattle.reach.specs.Outs.{Listed}
+use Rattle.reach.specs.Filling.{cellBy, codeOf, Within, Clean, Filled, Put, Looks, Visited, Going}
+use Rattle.reach.proofs.BitLaws.{bit-none, bit-set, bit-other, set-narrow, sum-more, sum-none, sum-le, bitOf-le}
 
--- There and on.
-reach-go : {p : Plan} {a b k c e : ℕ} → Comes (graphOf p) b k a c → Reachable p b e → Reachable p a e
-reach-go {p} {a} {b} {k} {c} {e} o r = record { over = a ∷ r .over; cost = c + r .cost; chain = go o (r .chain) }
+-- ---- what can be reached
 
 pub reach-self : {p : Plan} (h : ℕ) → Reachable p h h
 reach-self h = record { over = h ∷ []; cost = 0; chain = stay }
 
-chain-join : {p : Plan} {a b e d : ℕ} {l : List ℕ} → Chain (graphOf p) a l b d → Reachable p b e → Reachable p a e
-chain-join stay r = r
-chain-join (go o c) r = reach-go o (chain-join c r)
-
-pub reach-join : {p : Plan} {a b e : ℕ} → Reachable p a b → Reachable p b e → Reachable p a e
-reach-join q r = chain-join (q .chain) r
+-- There and on.
+reach-join : {p : Plan} {a b e d : ℕ} {l : List ℕ} → Chain (graphOf p) a l b d → Reachable p b e → Reachable p a e
+reach-join stay r = r
+reach-join (go {a} {c = c} o q) r = let t = reach-join q r in record { over = a ∷ t .over; cost = c + t .cost; chain = go o (t .chain) }
 
 module _ (p : Plan) (O : Obeys p) where
-  -- an open move reaches the cell that it enters
-  pub reach-one : (u d : ℕ) → u < cells p → d < 4 → byte p u d ≢ shut → Reachable p u (entered (p .width) u d)
+  -- An open move reaches the cell that it enters ..
+  reach-one : (u d : ℕ) → u < cells p → d < 4 → byte p u d ≢ shut → Reachable p u (entered (p .width) u d)
   reach-one u d lu ld n =
       let v = entered (p .width) u d in
       let k = opposite d + 1 in
       let c = byte p u d in
-      let i : List·Memᴰ (move (opposite d + 1) (entered (p .width) u d) (byte p u d)) (outBy p u d) = subst (List·Memᴰ (move (opposite d + 1) (entered (p .width) u d) (byte p u d))) (out-open p O u d lu ld n) (List·Memᴰ·head refl) in
-      reach-go (graph-laws p (O .size) .comes-in v k u c (up-to-has (outBy p u) 4 (move k v c) d ld i)) (reach-self v)
+      let i : List·Memᴰ (move (opposite d + 1) (entered (p .width) u d) (byte p u d)) (outBy p u d) = rw (← out-open p O u d lu ld n) (List·Memᴰ·head refl) in
+      record { over = u ∷ v ∷ []; cost = c + 0; chain = go (graph-laws p (O .size) .comes-in v k u c (up-to-has (outBy p u) 4 (move k v c) d ld i)) stay }
 
-  -- and each open move is the one of some direction
+  -- .. and each open move is the one of some direction.
   leaves-by : (b k a c : ℕ) → Comes (graphOf p) b k a c → (d : ℕ) × (d < 4) × (byte p a d ≢ shut) × (b ≡ entered (p .width) a d)
   leaves-by b k a c o =
       let i = up-to-is (outBy p a) 4 (move k b c) (graph-laws p (O .size) .goes-out b k a c o) in
@@ -62,261 +62,221 @@ module _ (p : Plan) (O : Obeys p) where
       at d ld i (yes e) = absurd (List·Memᴰ·not-nil (subst (List·Memᴰ (move k b c)) (sym (out-shut p O a d la ld e)) i))
       at d ld i (no n) = (n, ap (λ x. x .cell) (List·Memᴰ·eq-of-singleton (subst (List·Memᴰ (move k b c)) (sym (out-open p O a d la ld n)) i)))
 
-  -- A set that open moves do not lead out of holds all that its cells can reach.
-  pub closed-holds : (rows : List ℕ) → ((s : ℕ) → s < cells p → Marked p rows s → Looked p rows s 4)
-      → {a e d : ℕ} {l : List ℕ} → Chain (graphOf p) a l e d → Marked p rows a → Marked p rows e
+  -- Marked cells that no open move leads out of hold all that one of them can reach.
+  closed-holds : (rows : List ℕ) → ((s d : ℕ) → s < cells p → d < 4 → Marked (p .width) rows s → byte p s d ≢ shut → Marked (p .width) rows (entered (p .width) s d))
+      → {a e d : ℕ} {l : List ℕ} → Chain (graphOf p) a l e d → Marked (p .width) rows a → Marked (p .width) rows e
   closed-holds rows h stay m = m
   closed-holds rows h (go {a} {b} {k} {c} o q) m =
       let w = leaves-by b k a c o in
-      closed-holds rows h q (subst (Marked p rows) (sym (w .3)) (h a (graph-laws p (O .size) .from-in b k a c o) m (w .0) (w .1) (w .2)))
+      closed-holds rows h q (rw (w .3) (h a (w .0) (graph-laws p (O .size) .from-in b k a c o) (w .1) m (w .2)))
 
-  -- One cell more.
-  module _ (rows list : List ℕ) (count v r c : ℕ) (F : Filled p rows list count) (lv : v < cells p) (er : v / p .width ≡ r) (ec : v % p .width ≡ c) (clear : bit (getD rows r 0) c ≡ 0) where
-    abbrev rows′ : List ℕ
-    rows′ = set rows r (getD rows r 0 + 2 ^ c)
+-- ---- a cell as the list has it
 
-    abbrev list′ : List ℕ
-    list′ = set list count v
+cell-by : (w r c : ℕ) → c < 64 → cellBy w (64 * r + c) ≡ r * w + c
+cell-by w r c l =
+    let q : (64 * r + c) / 64 ≡ r = omega arith in
+    let m : (64 * r + c) % 64 ≡ c = omega arith in
+    rw (q, m) refl
 
-    pub in-row : r < p .height
-    in-row = rw (← er) (row-lt (O .size .wide) lv)
+code-cell : {width height : ℕ} → Size width height → (s : ℕ) → cellBy width (codeOf width s) ≡ s
+code-cell {width} z s = cell-by width (s / width) (s % width) (omega (arith, mod-lt s (z .wide), z .narrow)) ∙ div-add-mod' s width
 
-    pub in-column : c < p .width
-    in-column = rw (← ec) (mod-lt v (O .size .wide))
+pub in-plan : {width height x : ℕ} → Within width height x → cellBy width x < height * width
+in-plan {width} {height} {x} I = digits-lt {q = x / 64} {m = height} {r = x % 64} {c = width} (I .row-lt) (I .column-lt)
 
-    row-is : getD rows′ r 0 ≡ getD rows r 0 + 2 ^ c
-    row-is = getD-set-same rows r (getD rows r 0 + 2 ^ c) 0 (omega (arith, in-row, F .rowed))
+-- ---- one cell more
 
-    is-v : (s : ℕ) → s / p .width ≡ r → s % p .width ≡ c → s ≡ v
-    is-v s q m = sym (div-add-mod' s (p .width)) ∙ rw (q, m, ← er, ← ec) (div-add-mod' v (p .width))
+module _ (p : Plan) (O : Obeys p) (rows list : List ℕ) (count v : ℕ) (at : Spot)
+    (F : Filled p rows list count) (A : At (p .width) v at) (lv : v < cells p) (clear : bitOf (p .width) rows v ≡ 0) where
+  abbrev new : ℕ
+  new = getD rows (at .row) 0 + 2 ^ at .column
 
-    pub adds : Marked p rows′ v
-    unfolding bitOf
-    adds = rw (er, ec, row-is) (bit-set (getD rows r 0) c clear)
+  abbrev rows⁺ : List ℕ
+  rows⁺ = set rows (at .row) new
 
-    others : (s : ℕ) → s ≢ v → bitOf (p .width) rows′ s ≡ bitOf (p .width) rows s
-    unfolding bitOf
-    others s n = at (ℕ-discrete (s / p .width) r) (ℕ-discrete (s % p .width) c)
-      where
-        at : Dec (s / p .width ≡ r) → Dec (s % p .width ≡ c) → bit (getD rows′ (s / p .width) 0) (s % p .width) ≡ bit (getD rows (s / p .width) 0) (s % p .width)
-        at (no q) m = rw (getD-set-other rows r (s / p .width) (getD rows r 0 + 2 ^ c) 0 q) refl
-        at (yes q) (no m) = rw (q, row-is) (bit-other (getD rows r 0) c (s % p .width) clear m)
-        at (yes q) (yes m) = absurd (n (is-v s q m))
+  abbrev list⁺ : List ℕ
+  list⁺ = set list count (64 * at .row + at .column)
 
-    pub only : (s : ℕ) → Marked p rows′ s → Marked p rows s ⊎ (s ≡ v)
-    only s m = at (ℕ-discrete s v)
-      where
-        at : Dec (s ≡ v) → Marked p rows s ⊎ (s ≡ v)
-        at (yes e) = inr e
-        at (no n) = inl (sym (others s n) ∙ m)
+  in-row : at .row < p .height
+  in-row = rw (← stands-row A) (row-lt (O .size .wide) lv)
 
-    pub keeps : (s : ℕ) → Marked p rows s → Marked p rows′ s
-    keeps s m = at (ℕ-discrete s v)
-      where
-        at : Dec (s ≡ v) → Marked p rows′ s
-        at (yes e) = rw e adds
-        at (no n) = others s n ∙ m
+  low-column : at .column < 64
+  low-column = omega (arith, A .column-lt, O .size .narrow)
 
-    narrow′ : (i : ℕ) → getD rows′ i 0 < 2 ^ p .width
-    narrow′ i = at (ℕ-discrete i r)
-      where
-        at : Dec (i ≡ r) → getD rows′ i 0 < 2 ^ p .width
-        at (yes e) = rw (e, row-is) (set-narrow (getD rows r 0) c (p .width) clear in-column (F .narrow r))
-        at (no n) = rw (getD-set-other rows r i (getD rows r 0 + 2 ^ c) 0 n) (F .narrow i)
-
-    counted′ : count + 1 ≡ onesOf rows′ (p .height)
-    counted′ = omega (arith, F .counted, onesOf-set rows r (getD rows r 0 + 2 ^ c) (p .height) in-row (omega (arith, in-row, F .rowed)) (ones-set (getD rows r 0) c clear))
-
-    -- there is room for it: the ones are at most the cells
-    pub fits : count < cells p
-    fits = omega (arith, counted′, onesOf-le rows′ (p .width) narrow′ (p .height))
-
-    last-is : getD list′ count 0 ≡ v
-    last-is = getD-set-same list count v 0 (omega (arith, fits, F .room))
-
-    pub kept : (i : ℕ) → i < count → getD list′ i 0 ≡ getD list i 0
-    kept i l = getD-set-other list count i v 0 (λ e. omega arith)
-
-    pub filled : Filled p rows′ list′ (count + 1)
-    filled = record {
-      rowed = rw length-set (F .rowed);
-      room = rw length-set (F .room);
-      narrow = narrow′;
-      listed = λ s l m. place s l (only s m);
-      inside = λ i l. inside′ i l (ℕ-discrete i count);
-      marked = λ i l. marked′ i l (ℕ-discrete i count);
-      counted = counted′;
-    }
-      where
-        place : (s : ℕ) → s < cells p → Marked p rows s ⊎ (s ≡ v) → Listed list′ (count + 1) s
-        place s l (inl m) = let L = F .listed s l m in record { place = L .place; low = omega (arith, L .low); is = kept (L .place) (L .low) ∙ L .is }
-        place s l (inr e) = record { place = count; low = omega arith; is = last-is ∙ sym e }
-
-        inside′ : (i : ℕ) → i < count + 1 → Dec (i ≡ count) → getD list′ i 0 < cells p
-        inside′ i l (yes e) = rw (e, last-is) lv
-        inside′ i l (no n) = rw (kept i (omega arith)) (F .inside i (omega arith))
-
-        marked′ : (i : ℕ) → i < count + 1 → Dec (i ≡ count) → Marked p rows′ (getD list′ i 0)
-        marked′ i l (yes e) = rw (e, last-is) adds
-        marked′ i l (no n) = rw (kept i (omega arith)) (keeps (getD list i 0) (F .marked i (omega arith)))
-
-    -- a cell that u can reach
-    pub more : (u : ℕ) → Reachable p u v → More p u rows list count rows′ list′ (count + 1)
-    more u R = record {
-      rowed = length-set rows r (getD rows r 0 + 2 ^ c);
-      room = length-set list count v;
-      le = omega arith;
-      kept = kept;
-      grows = keeps;
-      from = λ s l m. at s (only s m);
-    }
-      where
-        at : (s : ℕ) → Marked p rows s ⊎ (s ≡ v) → Marked p rows s ⊎ Reachable p u s
-        at s (inl m) = inl m
-        at s (inr e) = inr (rw e R)
-
-  -- Nothing is marked at first.
-  pub filled-none : (rows list : List ℕ) → Clean p rows list → Filled p rows list 0
+  clear-bit : bit (getD rows (at .row) 0) (at .column) ≡ 0
   unfolding bitOf
-  filled-none rows list C = record {
+  clear-bit = rw (stands-row A, stands-column A) at clear
+
+  row-is : getD rows⁺ (at .row) 0 ≡ new
+  row-is = getD-set-same rows (at .row) new 0 (omega (arith, in-row, F .rowed))
+
+  adds : Marked (p .width) rows⁺ v
+  unfolding bitOf
+  adds = rw (stands-row A, stands-column A, row-is) (bit-set (getD rows (at .row) 0) (at .column) clear-bit)
+
+  others : (s : ℕ) → s ≢ v → bitOf (p .width) rows⁺ s ≡ bitOf (p .width) rows s
+  unfolding bitOf
+  others s n = by (ℕ-discrete (s / p .width) (at .row)) (ℕ-discrete (s % p .width) (at .column))
+    where
+      by : Dec (s / p .width ≡ at .row) → Dec (s % p .width ≡ at .column)
+          → bit (getD rows⁺ (s / p .width) 0) (s % p .width) ≡ bit (getD rows (s / p .width) 0) (s % p .width)
+      by (no q) m = rw (getD-set-other rows (at .row) (s / p .width) new 0 q) refl
+      by (yes q) (no m) = rw (q, row-is) (bit-other (getD rows (at .row) 0) (at .column) (s % p .width) clear-bit m)
+      by (yes q) (yes m) = absurd (n (sym (div-add-mod' s (p .width)) ∙ rw (q, m) (sym (A .is))))
+
+  keeps : (s : ℕ) → Marked (p .width) rows s → Marked (p .width) rows⁺ s
+  keeps s m = by (ℕ-discrete s v)
+    where
+      by : Dec (s ≡ v) → Marked (p .width) rows⁺ s
+      by (yes e) = rw e adds
+      by (no n) = others s n ∙ m
+
+  counted⁺ : count + 1 ≡ sumTo (bitOf (p .width) rows⁺) (cells p)
+  counted⁺ = omega (arith, F .counted, sum-more (bitOf (p .width) rows) (bitOf (p .width) rows⁺) v (cells p) lv (omega (arith, adds, clear)) others)
+
+  -- there is room for it: the bits are at most the cells
+  fits : count < length list
+  fits = omega (arith, counted⁺, sum-le (bitOf (p .width) rows⁺) (bitOf-le (p .width) rows⁺) (cells p), F .room)
+
+  -- What `mark` asks.
+  pub to-mark : ((at .row < length rows) × Placed at × (bit (getD rows (at .row) 0) (at .column) ≡ 0)) × (count < length list)
+  to-mark = ((omega (arith, in-row, F .rowed), spot-placed (O .size) A lv, clear-bit), fits)
+
+  last-is : getD list⁺ count 0 ≡ 64 * at .row + at .column
+  last-is = getD-set-same list count (64 * at .row + at .column) 0 fits
+
+  last-cell : cellBy (p .width) (getD list⁺ count 0) ≡ v
+  last-cell = rw last-is (cell-by (p .width) (at .row) (at .column) low-column) ∙ sym (A .is)
+
+  kept : (i : ℕ) → i < count → getD list⁺ i 0 ≡ getD list i 0
+  kept i l = getD-set-other list count i (64 * at .row + at .column) 0 (λ e. omega arith)
+
+  filled : Filled p rows⁺ list⁺ (count + 1)
+  filled = record {
+    rowed = rw length-set (F .rowed);
+    room = rw length-set (F .room);
+    narrow = λ r. narrow r (ℕ-discrete r (at .row));
+    listed = λ s l m. place s l m (ℕ-discrete s v);
+    inside = below-more (λ i. Within (p .width) (p .height) (getD list⁺ i 0)) count (λ i l. rw (kept i l) (F .inside i l)) (rw last-is within);
+    counted = counted⁺;
+  }
+    where
+      narrow : (r : ℕ) → Dec (r ≡ at .row) → getD rows⁺ r 0 < 2 ^ p .width
+      narrow r (yes e) = rw (e, row-is) (set-narrow (getD rows (at .row) 0) (at .column) (p .width) clear-bit (A .column-lt) (F .narrow (at .row)))
+      narrow r (no n) = rw (getD-set-other rows (at .row) r new 0 n) (F .narrow r)
+
+      place : (s : ℕ) → s < cells p → Marked (p .width) rows⁺ s → Dec (s ≡ v) → Listed list⁺ (count + 1) (codeOf (p .width) s)
+      place s l m (yes e) = record { place = count; low = omega arith; is = last-is ∙ rw (e, stands-row A, stands-column A) refl }
+      place s l m (no n) = let L = F .listed s l (sym (others s n) ∙ m) in record { place = L .place; low = omega (arith, L .low); is = kept (L .place) (L .low) ∙ L .is }
+
+      within : Within (p .width) (p .height) (64 * at .row + at .column)
+      within = record { row-lt = omega (arith, in-row, low-column); column-lt = omega (arith, A .column-lt, low-column) }
+
+-- Nothing is marked at first ..
+filled-none : {p : Plan} {rows list : List ℕ} → Clean p rows list → ((s : ℕ) → bitOf (p .width) rows s ≡ 0) × Filled p rows list 0
+unfolding bitOf
+filled-none {p} {rows} {list} C = (
+  none,
+  record {
     rowed = C .rowed;
     room = C .room;
     narrow = λ r. rw (C .none r) (pow-pos (p .width));
-    listed = λ s l m. absurd (none s m);
+    listed = λ s l m. absurd (omega (arith, none s));
     inside = λ i l. absurd (omega arith);
-    marked = λ i l. absurd (omega arith);
-    counted = sym (onesOf-none rows (C .none) (p .height));
+    counted = sym (sum-none (bitOf (p .width) rows) none (cells p));
+  },
+)
+  where
+    none : (s : ℕ) → bit (getD rows (s / p .width) 0) (s % p .width) ≡ 0
+    none s = rw (C .none (s / p .width)) (bit-none (s % p .width))
+
+-- .. then the hunter's cell.
+module _ {p : Plan} (O : Obeys p) {h : ℕ} (lh : h < cells p) {rows list : List ℕ} (C : Clean p rows list) {at : Spot} (A : At (p .width) h at) where
+  pub first-asks : ((at .row < length rows) × Placed at × (bit (getD rows (at .row) 0) (at .column) ≡ 0)) × (0 < length list)
+  first-asks = let N = filled-none C in to-mark p O rows list 0 h at (N .1) A lh (N .0 h)
+
+  pub going-first : {rows′ list′ : List ℕ} {n : ℕ} → Put rows list 0 at rows′ list′ n → Going p h rows′ list′ n 0
+  going-first P =
+      let N = filled-none C in
+      rw (P .rows-are, P .list-is, P .one-more) (record {
+        filled = filled p O rows list 0 h at (N .1) A lh (N .0 h);
+        le = omega arith;
+        own = adds p O rows list 0 h at (N .1) A lh (N .0 h);
+        reached = below-more (λ i. Reachable p h (cellBy (p .width) (getD (set list 0 (64 * at .row + at .column)) i 0))) 0 (λ i l. absurd (omega arith))
+            (rw (last-cell p O rows list 0 h at (N .1) A lh (N .0 h)) (reach-self h));
+        looks = λ j l. absurd (omega arith);
+      })
+
+-- ---- one look
+
+-- The move is shut, or the cell that it enters is marked.
+pub nothing-new : {p : Plan} {x d : ℕ} {rows list : List ℕ} {count : ℕ} → Filled p rows list count → Looks p rows x d → Visited p x d rows list count rows list count
+nothing-new F l = record { filled = F; looks = l; le = omega arith; kept = λ i _. refl; grows = λ s m. m; from = λ i k j. absurd (omega arith) }
+
+-- A new cell.
+module _ {p : Plan} (O : Obeys p) {rows list : List ℕ} {count : ℕ} (F : Filled p rows list count) {x d : ℕ} (I : Within (p .width) (p .height) x) (ld : d < 4) where
+  module _ (n : byte p (cellBy (p .width) x) d ≢ shut) {at : Spot} (A : At (p .width) (entered (p .width) (cellBy (p .width) x) d) at)
+      (m : Marked (p .width) rows (entered (p .width) (cellBy (p .width) x) d) → ⊥) where
+    stays : Stays (p .width) (p .height) (cellBy (p .width) x) d
+    stays = open-stays p O (cellBy (p .width) x) d (in-plan I) ld n
+
+    lv : entered (p .width) (cellBy (p .width) x) d < cells p
+    lv = entered-in p O (cellBy (p .width) x) d (in-plan I) ld stays
+
+    clear : bitOf (p .width) rows (entered (p .width) (cellBy (p .width) x) d) ≡ 0
+    clear = omega (arith, bitOf-le (p .width) rows (entered (p .width) (cellBy (p .width) x) d), m)
+
+    pub new-asks : ((at .row < length rows) × Placed at × (bit (getD rows (at .row) 0) (at .column) ≡ 0)) × (count < length list)
+    new-asks = to-mark p O rows list count (entered (p .width) (cellBy (p .width) x) d) at F A lv clear
+
+    pub one-new : {rows′ list′ : List ℕ} {n : ℕ} → Put rows list count at rows′ list′ n → Visited p x d rows list count rows′ list′ n
+    one-new P =
+        let v = entered (p .width) (cellBy (p .width) x) d in
+        rw (P .rows-are, P .list-is, P .one-more) (record {
+          filled = filled p O rows list count v at F A lv clear;
+          looks = λ _. adds p O rows list count v at F A lv clear;
+          le = omega arith;
+          kept = kept p O rows list count v at F A lv clear;
+          grows = keeps p O rows list count v at F A lv clear;
+          from = λ i k l. last i (omega arith);
+        })
+      where
+        last : (i : ℕ) → i ≡ count → Reachable p (cellBy (p .width) x) (cellBy (p .width) (getD (set list count (64 * at .row + at .column)) i 0))
+        last i e = rw (e, last-cell p O rows list count (entered (p .width) (cellBy (p .width) x) d) at F A lv clear) (reach-one p O (cellBy (p .width) x) d (in-plan I) ld n)
+
+-- ---- from look to look
+
+module _ {p : Plan} {h : ℕ} {rows list : List ℕ} {count looked : ℕ} (G : Going p h rows list count looked) where
+  pub going-le : count ≤ cells p
+  going-le = omega (arith, G .filled .counted, sum-le (bitOf (p .width) rows) (bitOf-le (p .width) rows) (cells p))
+
+  pub going-on : {rows′ list′ : List ℕ} {count′ : ℕ} → looked < 4 * count → Visited p (getD list (looked / 4) 0) (looked % 4) rows list count rows′ list′ count′
+      → Going p h rows′ list′ count′ (looked + 1)
+  going-on {rows′} {list′} {count′} l S = record {
+    filled = S .filled;
+    le = omega (arith, S .le);
+    own = S .grows h (G .own);
+    reached = λ i k. reached i k (decLt i count);
+    looks = below-more (λ j. Looks p rows′ (getD list′ (j / 4) 0) (j % 4)) looked
+        (λ j k. rw (S .kept (j / 4) (omega arith)) (λ n. S .grows (entered (p .width) (cellBy (p .width) (getD list (j / 4) 0)) (j % 4)) (G .looks j k n)))
+        (rw (S .kept (looked / 4) (omega arith)) (S .looks));
   }
     where
-      none : (s : ℕ) → bit (getD rows (s / p .width) 0) (s % p .width) ≡ 1 → ⊥
-      none s m = omega (arith, bit-none (s % p .width), ap (λ x. bit x (s % p .width)) (C .none (s / p .width)))
+      reached : (i : ℕ) → i < count′ → Dec (i < count) → Reachable p h (cellBy (p .width) (getD list′ i 0))
+      reached i k (yes m) = rw (S .kept i m) (G .reached i m)
+      reached i k (no m) = reach-join (G .reached (looked / 4) (omega arith) .chain) (S .from i (omega arith) k)
 
-  -- Every marked cell was looked at: the part is whole.
-  pub whole : (h : ℕ) (rows list : List ℕ) (count : ℕ) → Filled p rows list count → Marked p rows h → ((s : ℕ) → s < cells p → Marked p rows s → Reachable p h s)
-      → ((i : ℕ) → i < count → Looked p rows (getD list i 0) 4) → Part p h rows count
-  whole h rows list count F m from all = record {
-    so = from;
-    whenever = λ s l R. closed-holds rows looked (R .chain) m;
-    narrow = λ r l. F .narrow r;
-    counted = F .counted;
-    number-of = F .counted ∙ ones-cells rows (p .width) (F .narrow) (p .height);
+  -- Every move was looked at: the part is whole.
+  pub whole : Obeys p → 4 * count ≤ looked → Part p h rows
+  whole O done = record {
+    so = λ s l m. let L = G .filled .listed s l m in rw (L .is, code-cell (O .size) s) at (G .reached (L .place) (L .low));
+    whenever = λ s l R. closed-holds p O rows closed (R .chain) (G .own);
+    narrow = λ r l. G .filled .narrow r;
   }
     where
-      looked : (s : ℕ) → s < cells p → Marked p rows s → Looked p rows s 4
-      looked s l k = let L = F .listed s l k in rw (L .is) at (all (L .place) (L .low))
-
-pub more-none : {p : Plan} {u : ℕ} {rows list : List ℕ} {count : ℕ} → More p u rows list count rows list count
-more-none = record { rowed = refl; room = refl; le = omega arith; kept = λ i l. refl; grows = λ s m. m; from = λ s l m. inl m }
-
-pub more-more : {p : Plan} {u : ℕ} {r₁ l₁ : List ℕ} {n₁ : ℕ} {r₂ l₂ : List ℕ} {n₂ : ℕ} {r₃ l₃ : List ℕ} {n₃ : ℕ}
-    → More p u r₁ l₁ n₁ r₂ l₂ n₂ → More p u r₂ l₂ n₂ r₃ l₃ n₃ → More p u r₁ l₁ n₁ r₃ l₃ n₃
-more-more {p} {u} {r₁} {l₁} {n₁} {r₂} A B = record {
-  rowed = B .rowed ∙ A .rowed;
-  room = B .room ∙ A .room;
-  le = omega (arith, A .le, B .le);
-  kept = λ i l. B .kept i (omega (arith, A .le)) ∙ A .kept i l;
-  grows = λ s m. B .grows s (A .grows s m);
-  from = λ s l m. at s l (B .from s l m);
-}
-  where
-    at : (s : ℕ) → s < cells p → Marked p r₂ s ⊎ Reachable p u s → Marked p r₁ s ⊎ Reachable p u s
-    at s l (inl m) = A .from s l m
-    at s l (inr R) = inr R
-
--- A new cell is added.
-module _ (p : Plan) (O : Obeys p) (u d : ℕ) (lu : u < cells p) (ld : d < 4) (rows list : List ℕ) (count : ℕ) {v r c : ℕ} (F : Filled p rows list count) (N : New p rows u d v r c) where
-  pub has-room : count < length list
-  has-room = omega (arith, fits p O rows list count v r c F (N .inside) (N .at-row) (N .at-column) (N .clear), F .room)
-
-  pub visited : (y : ℕ) → y ≡ getD rows r 0 + 2 ^ c
-      → Filled p (set rows r y) (set list count v) (count + 1) × (More p u rows list count (set rows r y) (set list count v) (count + 1) × Looks p (set rows r y) u d Nothing)
-  visited y e =
-      rw e (
-        filled p O rows list count v r c F (N .inside) (N .at-row) (N .at-column) (N .clear),
-        (
-          more p O rows list count v r c F (N .inside) (N .at-row) (N .at-column) (N .clear) u (rw (N .enters) (reach-one p O u d lu ld (N .opens))),
-          λ n. rw (← N .enters) (adds p O rows list count v r c F (N .inside) (N .at-row) (N .at-column) (N .clear)),
-        ),
-      )
-
--- One direction more, one cell more.
-pub looked-more : {p : Plan} {u : ℕ} {rows list : List ℕ} {count : ℕ} {rows′ list′ : List ℕ} {count′ : ℕ} (d : ℕ)
-    → Looked p rows u d → More p u rows list count rows′ list′ count′ → Looks p rows′ u d Nothing → Looked p rows′ u (d + 1)
-looked-more {p} {u} {rows} {list} {count} {rows′} d L A K e l n = at (ℕ-discrete e d)
-  where
-    at : Dec (e ≡ d) → Marked p rows′ (entered (p .width) u e)
-    at (yes q) = rw q (K (rw q at n))
-    at (no m) = A .grows (entered (p .width) u e) (L e (omega arith) n)
-
-pub filled-le : {p : Plan} {rows list : List ℕ} {count : ℕ} → Filled p rows list count → count ≤ cells p
-filled-le {p} {rows} F = omega (arith, F .counted, onesOf-le rows (p .width) (F .narrow) (p .height))
-
-pub only-more : {p : Plan} {h u : ℕ} {rows list : List ℕ} {count : ℕ} {rows′ list′ : List ℕ} {count′ : ℕ}
-    → Only p h rows → Reachable p h u → More p u rows list count rows′ list′ count′ → Only p h rows′
-only-more {p} {h} {u} {rows} K R A = record { own = A .grows h (K .own); reached = λ s l m. at s l (A .from s l m) }
-  where
-    at : (s : ℕ) → s < cells p → Marked p rows s ⊎ Reachable p u s → Reachable p h s
-    at s l (inl m) = K .reached s l m
-    at s l (inr q) = reach-join R q
-
--- the cell at the head can be reached
-pub head-reached : {p : Plan} {h : ℕ} {rows list : List ℕ} {count : ℕ} (head : ℕ) → Filled p rows list count → Only p h rows → head < count → Reachable p h (getD list head 0)
-head-reached {p} {h} {rows} {list} head F K l = K .reached (getD list head 0) (F .inside head l) (F .marked head l)
-
-pub head-more : {p : Plan} {rows list : List ℕ} {count : ℕ} {rows′ list′ : List ℕ} {count′ : ℕ} (head : ℕ) → head < count
-    → ((i : ℕ) → i < head → Looked p rows (getD list i 0) 4) → More p (getD list head 0) rows list count rows′ list′ count′
-    → Looked p rows′ (getD list head 0) 4 → (i : ℕ) → i < head + 1 → Looked p rows′ (getD list′ i 0) 4
-head-more {p} {rows} {list} {count} {rows′} {list′} head lh L A K i l = rw (A .kept i (omega arith)) (at (ℕ-discrete i head))
-  where
-    at : Dec (i ≡ head) → Looked p rows′ (getD list i 0) 4
-    at (yes e) = rw e K
-    at (no m) = λ d ld n. A .grows (entered (p .width) (getD list i 0) d) (L i (omega arith) d ld n)
-
--- The hunter's cell alone is marked.
-module _ (p : Plan) (O : Obeys p) (h r c : ℕ) (rows list : List ℕ) (C : Clean p rows list)
-    (lh : h < cells p) (er : h / p .width ≡ r) (ec : h % p .width ≡ c) where
-  clear-row : bit (getD rows r 0) c ≡ 0
-  clear-row = ap (λ x. bit x c) (C .none r) ∙ bit-none c
-
-  pub first-row : r < p .height
-  first-row = in-row p O rows list 0 h r c (filled-none p O rows list C) lh er ec clear-row
-
-  pub first-column : c < p .width
-  first-column = in-column p O rows list 0 h r c (filled-none p O rows list C) lh er ec clear-row
-
-  pub first-clear : bit (getD rows r 0) c ≡ 0
-  first-clear = clear-row
-
-  pub begun : (y : ℕ) → y ≡ getD rows r 0 + 2 ^ c → Filled p (set rows r y) (set list 0 h) 1 × Only p h (set rows r y)
-  unfolding bitOf
-  begun y e =
-      let F = filled-none p O rows list C in
-      rw e (
-        filled p O rows list 0 h r c F lh er ec clear-row,
-        record {
-          own = adds p O rows list 0 h r c F lh er ec clear-row;
-          reached = λ s l m. at s (only p O rows list 0 h r c F lh er ec clear-row s m);
-        },
-      )
-    where
-      at : (s : ℕ) → Marked p rows s ⊎ (s ≡ h) → Reachable p h s
-      at s (inl m) = absurd (omega (arith, bit-none (s % p .width), ap (λ x. bit x (s % p .width)) (C .none (s / p .width)), m))
-      at s (inr q) = rw q (reach-self h)
-
--- The number is the sum of the ones counts.
-pub part-number : {p : Plan} {h : ℕ} {rows : List ℕ} {n : ℕ} (m : ℕ) → Part p h rows n → m ≡ onesOf rows (p .height) → Part p h rows m
-part-number m P e = rw (e ∙ sym (P .counted)) P
-
--- The part rests on the plan's rows alone.
-pub part-same : {p : Plan} {h : ℕ} {rows : List ℕ} {n : ℕ} (rows′ : List ℕ) → Obeys p → ((r : ℕ) → r < p .height → getD rows′ r 0 ≡ getD rows r 0) → Part p h rows n → Part p h rows′ n
-unfolding bitOf
-part-same {p} {h} {rows} rows′ O same P = record {
-  so = λ s l m. P .so s l (sym (bits s l) ∙ m);
-  whenever = λ s l R. bits s l ∙ P .whenever s l R;
-  narrow = λ r l. rw (same r l) (P .narrow r l);
-  counted = P .counted ∙ sym (onesOf-same rows′ rows (p .height) same);
-  number-of = P .number-of ∙ sym (sum-same (bitOf (p .width) rows′) (bitOf (p .width) rows) (cells p) bits);
-}
-  where
-    bits : (s : ℕ) → s < cells p → bit (getD rows′ (s / p .width) 0) (s % p .width) ≡ bit (getD rows (s / p .width) 0) (s % p .width)
-    bits s l = rw (same (s / p .width) (row-lt (O .size .wide) l)) refl
+      closed : (s d : ℕ) → s < cells p → d < 4 → Marked (p .width) rows s → byte p s d ≢ shut → Marked (p .width) rows (entered (p .width) s d)
+      closed s d l ld m =
+          let L = G .filled .listed s l m in
+          let i : (4 * L .place + d) / 4 ≡ L .place = omega arith in
+          let j : (4 * L .place + d) % 4 ≡ d = omega arith in
+          rw (i, j, L .is, code-cell (O .size) s) at (G .looks (4 * L .place + d) (omega (arith, L .low)))

@@ -1,6 +1,6 @@
 pub mod BitLaws
+pub mod SpotLaws
 pub mod FillLaws
-pub mod LookLaws
 pub mod OutLaws
 pub mod ReportLaws
 pub mod Theorems

@@ -1,71 +1,117 @@
--- What the call's promise comes to.
-use mathlib.Core.Path.{_≡_, sym, _∙_}
-use mathlib.Core.Logic.{_↔_}
-use mathlib.Core.List.{List}
+-- What the call's promise comes to: the cells reached and their number, the moves that lead out, "none", the refusals, and that nothing is left open.
+use mathlib.Core.Path.{_≡_, refl, sym, ap, subst, _∙_}
+use mathlib.Core.Logic.{_↔_, _≢_}
+use mathlib.Core.List.{List, [], _∷_, List·Memᴰ, List·Memᴰ·not-nil}
 use Prim.Native.Nat.{ℕ, _+_, _*_, _/_, _%_, _≤_, _<_}
 use native.Mathlib.Decide.{ℕ-discrete, decLt}
 use native.Mathlib.Omega.{arith}
 use lib.Arith.{digits-lt}
-use lib.ListN.{getD}
+use lib.ListN.{length, getD}
 use lib.Seq.{ext-getD}
+use Rattle.decide.proofs.RuledLaws.{ruled-one, passed-one, passed-zero, onward}
 use Rattle.method.specs.Walk.{NoChain}
 use Rattle.plan.specs.Costs.{Plan, planOf, cells, Obeys}
 use Rattle.plan.specs.Grid.{graphOf}
-use Rattle.reach.specs.Bits.{bitOf, onesOf, sumTo}
-use Rattle.reach.specs.Reachable.{Reachable, Marked, Number}
-use Rattle.reach.specs.Filling.{Listed}
-use Rattle.reach.specs.Outs.{LeadsOut}
-use Rattle.reach.specs.Promise.{Room, ReachRules, Written, Reports}
+use Rattle.reach.specs.Bits.{bitOf, Marked, onesOf, sumTo}
+use Rattle.reach.specs.Reachable.{Reachable, Number}
+use Rattle.reach.specs.Outs.{LeadsOut, Listed}
+use Rattle.reach.specs.Promise.{ReachTold, reachTold, Room, ReachRules, Kept, Written, Reports}
 use Rattle.reach.specs.declared.Reaching.{Reaching}
-use Rattle.reach.proofs.BitLaws.{same-bits, row-bit, bitOf-le, sum-same, Those, those}
+use Rattle.reach.specs.declared.Reaching.the-variants.{Reaches, Refused}
+use Rattle.reach.proofs.BitLaws.{same-bits, row-bit, bitOf-le, sum-same, ones-cells, Those, those}
+use Rattle.reach.proofs.FillLaws.{reach-self}
 use Rattle.reach.proofs.OutLaws.{fewest, at-most}
-use Rattle.decide.proofs.RuledLaws.{ruled-one, passed-one, passed-zero, onward}
+use Rattle.reach.proofs.ReportLaws.{plan-granted}
 
-module _ {p : Plan} {h : ℕ} {rows moves : List ℕ} {r : Reaching} {rows′ moves′ : List ℕ} (A : Written p h rows moves r rows′ moves′) where
+-- ---- the part and what leads out of it
+
+module _ {p : Plan} {h : ℕ} {rows moves : List ℕ} {told : ReachTold} {rows′ moves′ : List ℕ} (W : Written p h rows moves told rows′ moves′) where
   -- A bit is 1 exactly if a chain of open moves leads there.
-  pub reached-exactly : (s : ℕ) → s < cells p → Marked p rows′ s ↔ Reachable p h s
-  reached-exactly s l = (A .part .so s l, A .part .whenever s l)
+  pub reached-exactly : (s : ℕ) → s < cells p → Marked (p .width) rows′ s ↔ Reachable p h s
+  reached-exactly s l = (W .part .so s l, W .part .whenever s l)
 
-  -- The number is the sum of the ones counts, and of the cells with bit 1.
-  pub reached-count : (A .number ≡ onesOf rows′ (p .height)) × (A .number ≡ sumTo (bitOf (p .width) rows′) (cells p))
-  reached-count = (A .part .counted, A .part .number-of)
-
-  -- It is the number of reachable cells.
-  pub reached-number : Number p h (A .number)
-  reached-number = record {
-    list = T .list;
-    once = T .once;
-    so = λ s i. let q = T .so s i in (q .0, A .part .so s (q .0) (q .1));
-    whenever = λ s l R. T .whenever s l (A .part .whenever s l R);
-    long = T .long ∙ sym (A .part .number-of);
-  }
+  -- The sum of the ones counts is how many cells have bit 1, and how many can be reached: as many as stand in a list of them, each once.
+  pub reached-count : (told .cells ≡ onesOf rows′ (p .height)) × (told .cells ≡ sumTo (bitOf (p .width) rows′) (cells p)) × Number p h (told .cells)
+  reached-count = (
+    W .counted,
+    summed,
+    record {
+      list = T .list;
+      once = T .once;
+      so = λ s i. let q = T .so s i in (q .0, W .part .so s (q .0) (q .1));
+      whenever = λ s l R. T .whenever s l (W .part .whenever s l R);
+      long = T .long ∙ sym summed;
+    },
+  )
     where
+      summed : told .cells ≡ sumTo (bitOf (p .width) rows′) (cells p)
+      summed = W .counted ∙ ones-cells rows′ (p .width) (p .height) (W .part .narrow)
+
       T : Those (bitOf (p .width) rows′) (cells p)
       T = those (bitOf (p .width) rows′) (bitOf-le (p .width) rows′) (cells p)
 
-  -- A target is not among the reached cells exactly if no chain leads there: the search's "none".
-  pub none-shut-in : (t : ℕ) → t < cells p → (Marked p rows′ t → ⊥) ↔ NoChain (graphOf p) h t
-  none-shut-in t l = (λ n m d c. n (A .part .whenever t l (record { over = m; cost = d; chain = c })), λ n m. let R = A .part .so t l m in n (R .over) (R .cost) (R .chain))
+  -- The target is not among the reached cells exactly if no chain leads there: the search's "none".
+  pub none-shut-in : (t : ℕ) → t < cells p → (Marked (p .width) rows′ t → ⊥) ↔ NoChain (graphOf p) h t
+  none-shut-in t l = (
+    λ n m d c. n (W .part .whenever t l (record { over = m; cost = d; chain = c })),
+    λ n m. let R = W .part .so t l m in n (R .over) (R .cost) (R .chain),
+  )
 
-  -- A place is listed exactly if its move is shut, stays in the plan, and leads out of the part.
-  pub out-exactly : (s d : ℕ) → s < cells p → d < 4 → Listed moves′ (A .count) (4 * s + d) ↔ LeadsOut p (Reachable p h) s d
-  out-exactly s d l ld = (λ L. at L, A .outs .all s d ld (omega arith))
+  -- A place is listed exactly if its move is shut, stays in the plan and leads out of the part; the places rise, so that each is listed once.
+  pub out-exactly : ((s d : ℕ) → d < 4 → Listed moves′ (told .moves) (4 * s + d) ↔ LeadsOut p (Reachable p h) s d)
+      × ((i j : ℕ) → i < j → j < told .moves → getD moves′ i 0 < getD moves′ j 0)
+  out-exactly = (λ s d ld. (λ L. rw (at s d ld .0, at s d ld .1) at (rw (L .is) at (W .outs .each (L .place) (L .low))), λ o. W .outs .all (4 * s + d) (omega (arith, o .stays-in .from-in)) (rw (at s d ld .0, at s d ld .1) o)), W .outs .ordered)
     where
-      same : (x : ℕ) → x ≡ 4 * s + d → LeadsOut p (Reachable p h) (x / 4) (x % 4) → LeadsOut p (Reachable p h) s d
-      same x e o = let q : x / 4 ≡ s = omega arith in let r : x % 4 ≡ d = omega arith in rw (q, r) at o
+      at : (s d : ℕ) → d < 4 → ((4 * s + d) / 4 ≡ s) × ((4 * s + d) % 4 ≡ d)
+      at s d ld = (omega arith, omega arith)
 
-      at : Listed moves′ (A .count) (4 * s + d) → LeadsOut p (Reachable p h) s d
-      at L = same (getD moves′ (L .place) 0) (L .is) (A .outs .each (L .place) (L .low))
+  -- The hunter's own cell is among them, so the number is not 0.
+  some-cells : h < cells p → told .cells ≢ 0
+  some-cells l z = let N = reached-count .2 in mem-long (N .list) (N .whenever h l (reach-self h)) (N .long ∙ z)
+    where
+      mem-long : (list : List ℕ) {s : ℕ} → List·Memᴰ s list → length list ≡ 0 → ⊥
+      mem-long [] i e = List·Memᴰ·not-nil i
+      mem-long (x ∷ l) i e = omega arith
 
--- The rules give one number, and 0 where every rule holds.
-pub reach-number : (width height hunter : ℕ) (plan rows moves : List ℕ) {k l : ℕ} → ReachRules width height hunter plan rows moves k → ReachRules width height hunter plan rows moves l → k ≡ l
-reach-number width height hunter plan rows moves {k} {l} = ruled-one (ruled-one (ruled-one (ruled-one (ruled-one (ruled-one passed-one))))) k l
+-- ---- the refusals
 
-pub reach-done : (width height hunter : ℕ) (plan rows moves : List ℕ) {k : ℕ} → ReachRules width height hunter plan rows moves k
-    → Obeys (planOf width height plan) → hunter < height * width → Room (planOf width height plan) hunter rows moves → k ≡ 0
-reach-done width height hunter plan rows moves R O l m = passed-zero (onward m (onward (O .bytes) (onward (O .edges) (onward l (onward (O .sized) (onward (O .size) R))))))
+-- The rules give one number.
+one-number : (width height hunter : ℕ) (plan rows moves : List ℕ) {k l : ℕ} → ReachRules width height hunter plan rows moves k → ReachRules width height hunter plan rows moves l → k ≡ l
+one-number width height hunter plan rows moves {k} {l} = ruled-one (ruled-one (ruled-one (ruled-one (ruled-one (ruled-one passed-one))))) k l
 
--- ---- one answer
+-- An answer by what it tells.
+by-refusal : (r : Reaching) {k : ℕ} → reachTold r .refusal ≡ k → k ≢ 0 → r ≡ Refused k
+by-refusal (Reaches n m) e z = absurd (z (sym e))
+by-refusal (Refused j) e z = ap Refused e
+
+by-cells : (r : Reaching) → reachTold r .cells ≢ 0 → r ≡ Reaches (reachTold r .cells) (reachTold r .moves)
+by-cells (Reaches n m) z = refl
+by-cells (Refused j) z = absurd (z refl)
+
+module _ {width height hunter : ℕ} {plan rows moves : List ℕ} {r : Reaching} {rows′ moves′ : List ℕ} (P : Reports width height hunter plan rows moves r rows′ moves′) where
+  -- The number told is k exactly if k is the number of the first rule broken, and 0 exactly if none is.
+  pub reach-number : (k : ℕ) → (reachTold r .refusal ≡ k) ↔ ReachRules width height hunter plan rows moves k
+  reach-number k = (
+    λ e. subst (ReachRules width height hunter plan rows moves) (sym (P .answer) ∙ e) (P .rules),
+    λ rules. P .answer ∙ one-number width height hunter plan rows moves (P .rules) rules,
+  )
+
+  -- Refused by the number of the first rule broken, and nothing has changed ..
+  pub reach-refused : {k : ℕ} → ReachRules width height hunter plan rows moves k → k ≢ 0 → (r ≡ Refused k) × (rows′ ≡ rows) × (moves′ ≡ moves)
+  reach-refused {k} rules n =
+      let e = one-number width height hunter plan rows moves (P .rules) rules in
+      let U = P .refused (λ z. n (sym e ∙ z)) in
+      (by-refusal r (P .answer ∙ e) n, U .same-rows, U .same-moves)
+
+  granted-done : P .number ≡ 0 → (r ≡ Reaches (reachTold r .cells) (reachTold r .moves)) × Written (planOf width height plan) hunter rows moves (reachTold r) rows′ moves′
+  granted-done z = let W = P .done z in (by-cells r (some-cells W (plan-granted {plan = plan} (P .rules) z .0 .1)), W)
+
+  -- .. and where no rule is broken, the part and what leads out of it are written.
+  pub reach-done : Obeys (planOf width height plan) → hunter < height * width → Room (planOf width height plan) hunter rows moves
+      → (r ≡ Reaches (reachTold r .cells) (reachTold r .moves)) × Written (planOf width height plan) hunter rows moves (reachTold r) rows′ moves′
+  reach-done O l m = granted-done (passed-zero (onward m (onward (O .bytes) (onward (O .edges) (onward l (onward (O .sized) (onward (O .size) (P .rules))))))))
+
+-- ---- one result
 
 one-bit : {x y : ℕ} → x ≤ 1 → y ≤ 1 → (x ≡ 1 → y ≡ 1) → (y ≡ 1 → x ≡ 1) → x ≡ y
 one-bit {x} {y} a b f g = at (ℕ-discrete x 1) (ℕ-discrete y 1)
@@ -75,50 +121,53 @@ one-bit {x} {y} a b f g = at (ℕ-discrete x 1) (ℕ-discrete y 1)
     at (no n) (yes e) = absurd (n (g e))
     at (no n) (no m) = omega arith
 
-module _ {p : Plan} {h : ℕ} {rows moves : List ℕ} {r r₂ : Reaching} {rows′ moves′ rows″ moves″ : List ℕ}
-    (A : Written p h rows moves r rows′ moves′) (B : Written p h rows moves r₂ rows″ moves″) where
-  bits-same : (s : ℕ) → s < cells p → bitOf (p .width) rows′ s ≡ bitOf (p .width) rows″ s
+-- Two lists of which the same first ones are written.
+kept-same : {n : ℕ} {before a b : List ℕ} → Kept n before a → Kept n before b → ((i : ℕ) → i < n → getD a i 0 ≡ getD b i 0) → a ≡ b
+kept-same {n} {before} {a} {b} K L h = ext-getD 0 a b (K .long ∙ sym (L .long)) (λ i l. at i (decLt i n))
+  where
+    at : (i : ℕ) → Dec (i < n) → getD a i 0 ≡ getD b i 0
+    at i (yes l) = h i l
+    at i (no m) = K .rest i (omega arith) ∙ sym (L .rest i (omega arith))
+
+module _ {p : Plan} {h : ℕ} {rows moves : List ℕ} {t₁ t₂ : ReachTold} {rows₁ moves₁ rows₂ moves₂ : List ℕ}
+    (A : Written p h rows moves t₁ rows₁ moves₁) (B : Written p h rows moves t₂ rows₂ moves₂) where
+  bits-same : (s : ℕ) → s < cells p → bitOf (p .width) rows₁ s ≡ bitOf (p .width) rows₂ s
   bits-same s l =
-      one-bit (bitOf-le (p .width) rows′ s) (bitOf-le (p .width) rows″ s)
+      one-bit (bitOf-le (p .width) rows₁ s) (bitOf-le (p .width) rows₂ s)
       (λ m. B .part .whenever s l (A .part .so s l m))
       (λ m. A .part .whenever s l (B .part .so s l m))
 
-  number-same : A .number ≡ B .number
-  number-same = A .part .number-of ∙ sum-same (bitOf (p .width) rows′) (bitOf (p .width) rows″) (cells p) bits-same ∙ sym (B .part .number-of)
+  rows-same : rows₁ ≡ rows₂
+  rows-same =
+      kept-same (A .rows-kept) (B .rows-kept) (λ i l.
+      same-bits (p .width) (getD rows₁ i 0) (getD rows₂ i 0) (A .part .narrow i l) (B .part .narrow i l)
+      (λ c k. sym (row-bit (p .width) rows₁ i k) ∙ bits-same (i * p .width + c) (digits-lt {q = i} {m = p .height} {r = c} {c = p .width} l k) ∙ row-bit (p .width) rows₂ i k))
 
-  count-same : A .count ≡ B .count
-  count-same = omega (arith, fewest p (Reachable p h) (A .outs) (B .outs), fewest p (Reachable p h) (B .outs) (A .outs))
+  cells-same : t₁ .cells ≡ t₂ .cells
+  cells-same = A .counted ∙ ap (λ x. onesOf x (p .height)) rows-same ∙ sym (B .counted)
 
-  pub one-answer : r ≡ r₂
-  one-answer = A .answer ∙ rw (number-same, count-same) (sym (B .answer))
+  count-same : t₁ .moves ≡ t₂ .moves
+  count-same = omega (arith, fewest (A .outs) (B .outs), fewest (B .outs) (A .outs))
 
-  pub one-rows : rows′ ≡ rows″
-  one-rows = ext-getD 0 rows′ rows″ (A .same-rows ∙ sym (B .same-rows)) (λ i l. at i (decLt i (p .height)))
-    where
-      at : (i : ℕ) → Dec (i < p .height) → getD rows′ i 0 ≡ getD rows″ i 0
-      at i (yes l) =
-          same-bits (p .width) (getD rows′ i 0) (getD rows″ i 0) (A .part .narrow i l) (B .part .narrow i l)
-          (λ c k. sym (row-bit (p .width) rows′ i k) ∙ bits-same (i * p .width + c) (digits-lt {q = i} {m = p .height} {r = c} {c = p .width} l k) ∙ row-bit (p .width) rows″ i k)
-      at i (no n) = A .rows-kept i (omega arith) ∙ sym (B .rows-kept i (omega arith))
+  moves-same : moves₁ ≡ moves₂
+  moves-same =
+      kept-same (A .moves-kept) (rw (← count-same) at (B .moves-kept)) (λ i l.
+      omega (arith, at-most (A .outs) (B .outs) i l, at-most (B .outs) (A .outs) i (omega (arith, count-same))))
 
-  pub one-moves : moves′ ≡ moves″
-  one-moves = ext-getD 0 moves′ moves″ (A .same-moves ∙ sym (B .same-moves)) (λ i l. at i (decLt i (A .count)))
-    where
-      at : (i : ℕ) → Dec (i < A .count) → getD moves′ i 0 ≡ getD moves″ i 0
-      at i (yes l) = omega (arith, at-most p (Reachable p h) (A .outs) (B .outs) i l, at-most p (Reachable p h) (B .outs) (A .outs) i (omega (arith, count-same)))
-      at i (no n) = A .moves-kept i (omega arith) ∙ sym (B .moves-kept i (omega (arith, count-same)))
-
--- The promise leaves nothing open.
-pub one-reach : {width height hunter : ℕ} {plan rows moves : List ℕ} {r r₂ : Reaching} {rows′ moves′ rows″ moves″ : List ℕ}
-    → Reports width height hunter plan rows moves r rows′ moves′ → Reports width height hunter plan rows moves r₂ rows″ moves″ → (r ≡ r₂) × (rows′ ≡ rows″) × (moves′ ≡ moves″)
-one-reach {width} {height} {hunter} {plan} {rows} {moves} {r} {r₂} {rows′} {moves′} {rows″} {moves″} R S = at (ℕ-discrete (R .number) 0)
+-- Two results that the promise allows are equal: the answer, every row and every move.
+pub one-reach : {width height hunter : ℕ} {plan rows moves : List ℕ} {r₁ r₂ : Reaching} {rows₁ moves₁ rows₂ moves₂ : List ℕ}
+    → Reports width height hunter plan rows moves r₁ rows₁ moves₁ → Reports width height hunter plan rows moves r₂ rows₂ moves₂ → (r₁ ≡ r₂) × (rows₁ ≡ rows₂) × (moves₁ ≡ moves₂)
+one-reach {r₁ = r₁} {r₂ = r₂} {rows₁ = rows₁} {moves₁ = moves₁} {rows₂ = rows₂} {moves₂ = moves₂} P Q = at (ℕ-discrete (P .number) 0)
   where
-    e : R .number ≡ S .number
-    e = reach-number width height hunter plan rows moves (R .rules) (S .rules)
+    e : Q .number ≡ P .number
+    e = one-number _ _ _ _ _ _ (Q .rules) (P .rules)
 
-    at : Dec (R .number ≡ 0) → (r ≡ r₂) × (rows′ ≡ rows″) × (moves′ ≡ moves″)
-    at (yes z) = let A = R .done z in let B = S .done (sym e ∙ z) in (one-answer A B, one-rows A B, one-moves A B)
+    at : Dec (P .number ≡ 0) → (r₁ ≡ r₂) × (rows₁ ≡ rows₂) × (moves₁ ≡ moves₂)
+    at (yes z) =
+        let A = granted-done P z in
+        let B = granted-done Q (e ∙ z) in
+        (A .0 ∙ rw (cells-same (A .1) (B .1), count-same (A .1) (B .1)) (sym (B .0)), rows-same (A .1) (B .1), moves-same (A .1) (B .1))
     at (no n) =
-        let a = R .refused n in
-        let b = S .refused (λ z. n (e ∙ z)) in
-        (a .0 ∙ rw e (sym (b .0)), a .1 ∙ sym (b .1), a .2 ∙ sym (b .2))
+        let a = reach-refused P (P .rules) n in
+        let b = reach-refused Q (P .rules) n in
+        (a .0 ∙ sym (b .0), a .1 ∙ sym (b .1), a .2 ∙ sym (b .2))

@@ -1,68 +1,74 @@
--- What holds while the part is filled.
+-- What the inner functions rest on: what holds while the part is filled, and what a copy makes.
 use mathlib.Core.Path.{_≡_}
-use mathlib.Core.Logic.{_⊎_, _≢_}
+use mathlib.Core.Logic.{_≢_}
 use mathlib.Core.List.{List}
-use Prim.Native.Nat.{ℕ, _/_, _%_, _≤_, _<_, _^_}
-use lib.ListN.{length, getD}
+use Prim.Native.Nat.{ℕ, _+_, _*_, _/_, _%_, _≤_, _<_, _^_}
+use lib.ListN.{length, getD, set}
+use Rattle.plan.specs.Cells.{row, column, entered}
 use Rattle.plan.specs.Costs.{Plan, cells, byte, shut}
-use Rattle.plan.specs.Cells.{entered}
-use Rattle.reach.specs.Bits.{bit, onesOf}
-use Rattle.reach.specs.Reachable.{Reachable, Marked}
-use Rattle.reach.specs.declared.Fresh.{Fresh}
-use Rattle.reach.specs.declared.Fresh.the-variants.{Nothing, Cell}
+use Rattle.plan.specs.declared.Spot.{Spot}
+use Rattle.reach.specs.Bits.{bitOf, Marked, sumTo}
+use Rattle.reach.specs.Reachable.{Reachable}
+use Rattle.reach.specs.Outs.{Listed}
+use Rattle.reach.specs.Promise.{Kept}
 
--- The cell stands among the first `count` of the list.
-pub record Listed (list : List ℕ) (count s : ℕ) : Type 0 where
-  pub place : ℕ
-  pub low : place < count
-  pub is : getD list place 0 ≡ s
+-- A cell of the list is written 64 × row + column: the cell that is meant ..
+abbrev pub cellBy : ℕ → ℕ → ℕ
+cellBy width x = x / 64 * width + x % 64
 
--- The first `count` of the list are the marked cells, each once: `count` is the sum of the ones counts.
-pub record Filled (p : Plan) (rows list : List ℕ) (count : ℕ) : Type 0 where
-  pub rowed : p .height ≤ length rows
-  pub room : cells p ≤ length list
-  pub narrow : (r : ℕ) → getD rows r 0 < 2 ^ p .width
-  pub listed : (s : ℕ) → s < cells p → Marked p rows s → Listed list count s
-  pub inside : (i : ℕ) → i < count → getD list i 0 < cells p
-  pub marked : (i : ℕ) → i < count → Marked p rows (getD list i 0)
-  pub counted : count ≡ onesOf rows (p .height)
+-- .. how a cell is written ..
+abbrev pub codeOf : ℕ → ℕ → ℕ
+codeOf width s = 64 * row width s + column width s
 
--- Nothing is taken away, and a cell added is one that u can reach.
-pub record More (p : Plan) (u : ℕ) (rows list : List ℕ) (count : ℕ) (rows′ list′ : List ℕ) (count′ : ℕ) : Type 0 where
-  pub rowed : length rows′ ≡ length rows
-  pub room : length list′ ≡ length list
-  pub le : count ≤ count′
-  pub kept : (i : ℕ) → i < count → getD list′ i 0 ≡ getD list i 0
-  pub grows : (s : ℕ) → Marked p rows s → Marked p rows′ s
-  pub from : (s : ℕ) → s < cells p → Marked p rows′ s → Marked p rows s ⊎ Reachable p u s
-
--- Cell u's open moves of the first n directions enter marked cells.
-abbrev pub Looked : Plan → List ℕ → ℕ → ℕ → Type 0
-Looked p rows u n = (d : ℕ) → d < n → byte p u d ≢ shut → Marked p rows (entered (p .width) u d)
-
--- A cell that the move from u in direction d enters and that is not marked.
-pub record New (p : Plan) (rows : List ℕ) (u d v r c : ℕ) : Type 0 where
-  pub opens : byte p u d ≢ shut
-  pub enters : v ≡ entered (p .width) u d
-  pub inside : v < cells p
-  pub column-lt : c < p .width
-  pub row-lt : r < p .height
-  pub at-row : v / p .width ≡ r
-  pub at-column : v % p .width ≡ c
-  pub clear : bit (getD rows r 0) c ≡ 0
-
--- What a look at one move answers.
-abbrev pub Looks : Plan → List ℕ → ℕ → ℕ → Fresh → Type 0
-Looks p rows u d Nothing = byte p u d ≢ shut → Marked p rows (entered (p .width) u d)
-Looks p rows u d (Cell v r c) = New p rows u d v r c
-
--- The hunter's cell is marked, and none but cells that it can reach.
-pub record Only (p : Plan) (h : ℕ) (rows : List ℕ) : Type 0 where
-  pub own : Marked p rows h
-  pub reached : (s : ℕ) → s < cells p → Marked p rows s → Reachable p h s
+-- .. and that it is one of the plan.
+pub record Within (width height x : ℕ) : Type 0 where
+  pub row-lt : x / 64 < height
+  pub column-lt : x % 64 < width
 
 -- Room, and nothing marked yet.
 pub record Clean (p : Plan) (rows list : List ℕ) : Type 0 where
   pub rowed : p .height ≤ length rows
   pub room : cells p ≤ length list
   pub none : (i : ℕ) → getD rows i 0 ≡ 0
+
+-- The first `count` of the list are the marked cells, each once: `count` is the sum of their bits.
+pub record Filled (p : Plan) (rows list : List ℕ) (count : ℕ) : Type 0 where
+  pub rowed : p .height ≤ length rows
+  pub room : cells p ≤ length list
+  pub narrow : (r : ℕ) → getD rows r 0 < 2 ^ p .width
+  pub listed : (s : ℕ) → s < cells p → Marked (p .width) rows s → Listed list count (codeOf (p .width) s)
+  pub inside : (i : ℕ) → i < count → Within (p .width) (p .height) (getD list i 0)
+  pub counted : count ≡ sumTo (bitOf (p .width) rows) (cells p)
+
+-- The cell of a spot is marked and stands at the list's end.
+pub record Put (rows list : List ℕ) (count : ℕ) (at : Spot) (rows′ list′ : List ℕ) (count′ : ℕ) : Type 0 where
+  pub rows-are : rows′ ≡ set rows (at .row) (getD rows (at .row) 0 + 2 ^ at .column)
+  pub list-is : list′ ≡ set list count (64 * at .row + at .column)
+  pub one-more : count′ ≡ count + 1
+
+-- If the move from a cell of the list in direction d is open, the cell that it enters is marked.
+abbrev pub Looks : Plan → List ℕ → ℕ → ℕ → Type 0
+Looks p rows x d = byte p (cellBy (p .width) x) d ≢ shut → Marked (p .width) rows (entered (p .width) (cellBy (p .width) x) d)
+
+-- A move was looked at: nothing is taken away, and a cell added is one that the move's cell can reach.
+pub record Visited (p : Plan) (x d : ℕ) (rows list : List ℕ) (count : ℕ) (rows′ list′ : List ℕ) (count′ : ℕ) : Type 0 where
+  pub filled : Filled p rows′ list′ count′
+  pub looks : Looks p rows′ x d
+  pub le : count ≤ count′
+  pub kept : (i : ℕ) → i < count → getD list′ i 0 ≡ getD list i 0
+  pub grows : (s : ℕ) → Marked (p .width) rows s → Marked (p .width) rows′ s
+  pub from : (i : ℕ) → count ≤ i → i < count′ → Reachable p (cellBy (p .width) x) (cellBy (p .width) (getD list′ i 0))
+
+-- While the list's moves are looked at one after the other: the hunter's cell is marked, each listed cell can be reached, and of the moves before
+-- this one each open one enters a marked cell.
+pub record Going (p : Plan) (h : ℕ) (rows list : List ℕ) (count looked : ℕ) : Type 0 where
+  pub filled : Filled p rows list count
+  pub le : looked ≤ 4 * count
+  pub own : Marked (p .width) rows h
+  pub reached : (i : ℕ) → i < count → Reachable p h (cellBy (p .width) (getD list i 0))
+  pub looks : (j : ℕ) → j < looked → Looks p rows (getD list (j / 4) 0) (j % 4)
+
+-- The first n are those of another list, the rest stays.
+pub record Copied (from to : List ℕ) (n : ℕ) (to′ : List ℕ) : Type 0 where
+  pub first : (i : ℕ) → i < n → getD to′ i 0 ≡ getD from i 0
+  pub kept : Kept n to to′

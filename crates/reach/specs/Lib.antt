@@ -1,6 +1,6 @@
--- Which cells the hunter can reach, as rows of bits, and which shut moves lead out of them. Read the files in this order.
+-- Which cells the hunter can reach, and which shut moves lead out of them. The first four files are what is promised, in this order; the last is what the inner functions rest on.
 pub mod Bits
 pub mod Reachable
-pub mod Filling
 pub mod Outs
 pub mod Promise
+pub mod Filling

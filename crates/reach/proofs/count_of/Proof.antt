@@ -1,50 +1,47 @@
-use Rattle.reach.proofs.BitLaws.{ones-more}
+-- Each row's ones, at most 64, are added to the sum of those before it.
 use mathlib.Core.Path.{_≡_, refl, ap, _∙_}
 use Prim.Native.Nat.{_≤_, _-_, _*_}
 use native.Mathlib.Omega.{arith}
-use borrow.Author.Needs.{needs}
-use Rattle.reach.specs.Bits.{onesOf}
+use lib.Count.{ones, ones-le}
+use lib.ListN.{getD}
+use Rattle.reach.specs.Bits.{onesOf, sumTo}
+use Rattle.reach.proofs.BitLaws.{sum-next}
 use Rattle.reach.proofs.count_of.Statement.{statement}
 use Rattle.reach.proofs.count_of.Tie as tie
 
 abbrev Inv-loop : tie.InvT-loop
-Inv-loop rows height sum₀ i₀ sum i =
-    (i ≤ height) × (sum ≡ onesOf rows i) × (sum ≤ 64 * i)
+Inv-loop rows height sum₀ row₀ sum row = (row ≤ height) × (sum ≡ onesOf rows row) × (sum ≤ 64 * row)
 
 abbrev μ-loop : tie.MeasureT-loop
-μ-loop rows height sum₀ i₀ sum i = height - i
+μ-loop rows height sum₀ row₀ sum row = height - row
 
 loop-holds : tie.Need-loop-holds Inv-loop μ-loop
-unfolding onesOf
+unfolding sumTo
 loop-holds c = (omega arith, refl, omega arith)
 
-mul-ones-in : tie.Need-mul-ones-in Inv-loop μ-loop
-mul-ones-in c = omega arith
+mul-sum : tie.Need-mul-sum Inv-loop μ-loop
+mul-sum c = omega arith
 
-shared-slice-read-ones-in : tie.Need-shared-slice-read-ones-in Inv-loop μ-loop
-shared-slice-read-ones-in c = omega arith
+shared-slice-read-sum : tie.Need-shared-slice-read-sum Inv-loop μ-loop
+shared-slice-read-sum c = omega arith
 
-ones-in-requires : tie.Need-ones-in-requires Inv-loop μ-loop
-ones-in-requires c κs = search needs
+cast-sum : tie.Need-cast-sum Inv-loop μ-loop
+cast-sum c = omega (arith, ones-le 64 _ (c .shared-slice-known .given (c .before .before .loop .row) .fits))
 
 add-sum : tie.Need-add-sum Inv-loop μ-loop
-add-sum c = omega (arith, c .ones-in .ensures, c .before .before .before .loop .inv, c .before .before .before .before .before .pre, c .before .before .loop-test .taken)
+add-sum c = omega (arith, ones-le 64 _ (c .shared-slice-known .given (c .before .before .loop .row) .fits))
 
-add-i : tie.Need-add-i Inv-loop μ-loop
-add-i c = omega (arith, c .before .before .before .before .before .pre, c .before .before .loop-test .taken)
+add-row : tie.Need-add-row Inv-loop μ-loop
+add-row c = omega arith
 
 loop-less : tie.Need-loop-less Inv-loop μ-loop
 loop-less c = omega arith
 
 loop-again : tie.Need-loop-again Inv-loop μ-loop
-loop-again c =
-    let i = c .before .before .before .loop .inv in
-    (omega arith, ones-more _ _ (i .1) (c .ones-in .ensures .0), omega (arith, i .2, c .ones-in .ensures .1))
+loop-again c = (omega arith, sum-next _ _ (c .before .before .loop .inv .1), omega (arith, ones-le 64 _ (c .shared-slice-known .given (c .before .before .loop .row) .fits)))
 
 returns : tie.Need-returns Inv-loop μ-loop
-returns c =
-    let i = c .before .loop .inv in
-    i .1 ∙ ap (onesOf _) (omega (arith, i .0, c .loop-test .left))
+returns c = c .before .loop .inv .1 ∙ ap (sumTo _) (omega arith)
 
 pub count-of-spec : {M : Type 1} → statement M
 count-of-spec =
@@ -53,11 +50,11 @@ count-of-spec =
     Inv-loop
     μ-loop
     loop-holds
-    mul-ones-in
-    shared-slice-read-ones-in
-    ones-in-requires
+    mul-sum
+    shared-slice-read-sum
+    cast-sum
     add-sum
-    add-i
+    add-row
     loop-less
     loop-again
     returns)

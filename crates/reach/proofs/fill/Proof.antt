@@ -1,77 +1,79 @@
+-- The hunter's cell is marked first; then each look keeps `Going` (`going-on`), and with no move left the part is whole.
 use mathlib.Core.Path.{_≡_, refl, _∙_}
-use Prim.Native.Nat.{ℕ, _≤_, _<_, _-_, _*_}
+use Prim.Native.Nat.{ℕ, _-_, _*_, _/_, _<_, _≤_}
 use native.Mathlib.Omega.{arith}
-use lib.ListN.{length, getD}
+use lib.ListN.{length, length-set}
 use Rattle.plan.specs.Costs.{planOf}
 use Rattle.plan.proofs.MoveLaws.{area}
-use Rattle.reach.specs.Filling.{Filled, Looked, Only}
-use Rattle.reach.proofs.FillLaws.{filled-le, only-more, head-reached, head-more, whole}
+use Rattle.reach.specs.Filling.{Going}
+use Rattle.reach.proofs.FillLaws.{first-asks, going-first, going-le, going-on, whole}
 use Rattle.reach.proofs.fill.Statement.{statement}
 use Rattle.reach.proofs.fill.Tie as tie
 
 abbrev Inv-loop : tie.InvT-loop
-Inv-loop width height hunter plan rows₀ list₀ from count₀ head₀ rows list count head =
-    (head ≤ count)
-    × Filled (planOf width height plan) rows list count
-    × Only (planOf width height plan) hunter rows
-    × ((i : ℕ) → i < head → Looked (planOf width height plan) rows (getD list i 0) 4)
-    × (length rows ≡ length rows₀)
-    × (length list ≡ length list₀)
+Inv-loop width height hunter plan rows₀ list₀ count₀ looked₀ rows list count looked = Going (planOf width height plan) hunter rows list count looked × (length rows ≡ length rows₀) × (length list ≡ length list₀)
 
 abbrev μ-loop : tie.MeasureT-loop
-μ-loop width height hunter plan rows₀ list₀ from count₀ head₀ rows list count head = height * width - head
+μ-loop width height hunter plan rows₀ list₀ count₀ looked₀ rows list count looked = 4 * (height * width) - looked
+
+-- The places that the answers look back to.
+abbrev after-mark : tie.After-slice-known4 Inv-loop μ-loop → tie.After-mark Inv-loop μ-loop
+after-mark c = c .before .before .before .before
+
+abbrev at-start : tie.After-mark Inv-loop μ-loop → tie.Start Inv-loop μ-loop
+at-start c = c .before .before .before .before .before .before .before
+
+abbrev at-begin : tie.At-loop Inv-loop μ-loop → tie.Start Inv-loop μ-loop
+at-begin c = at-start (after-mark (c .before))
+
+abbrev after-visit : tie.After-slice-known7 Inv-loop μ-loop → tie.After-visit Inv-loop μ-loop
+after-visit c = c .before .before .before .before
+
+-- No more cells are listed than the plan has.
+few : (c : tie.At-loop Inv-loop μ-loop) → let s = at-begin c .args in (c .loop .count ≤ s .height * s .width) × (s .height * s .width ≤ 4096)
+few c = (going-le (c .loop .inv .0), area (at-begin c .pre .0 .size))
+
+spot-of-requires : tie.Need-spot-of-requires Inv-loop μ-loop
+spot-of-requires c κs = c .before .before .before .pre .0 .size .wide
+
+mark-requires : tie.Need-mark-requires Inv-loop μ-loop
+mark-requires c κs = let s = c .before .before in let p = s .before .before .before .before .pre in first-asks (p .0) (p .1 .0) (p .1 .1) (s .spot-of .ensures)
 
 loop-holds : tie.Need-loop-holds Inv-loop μ-loop
-loop-holds c =
-    let p = c .before .before .before .pre in
-    (omega arith, p .1 .0, p .1 .1, λ i l. absurd (omega arith), refl, refl)
+loop-holds c = let m = after-mark c in let p = at-start m .pre in (going-first (p .0) (p .1 .0) (p .1 .1) (m .before .before .before .spot-of .ensures) (m .mark .ensures), refl, refl)
 
-mul-u : tie.Need-mul-u Inv-loop μ-loop
-mul-u c =
-    let i = c .before .loop .inv in
-    omega (arith, c .loop-test .taken, filled-le (i .1), area (c .before .before .before .before .before .pre .0 .size))
+mul-loop : tie.Need-mul-loop Inv-loop μ-loop
+mul-loop c = omega (arith, few c)
 
-slice-read-u : tie.Need-slice-read-u Inv-loop μ-loop
-slice-read-u c =
-    let i = c .before .before .loop .inv in
-    omega (arith, c .before .loop-test .taken, filled-le (i .1), i .1 .room)
+mul-x : tie.Need-mul-x Inv-loop μ-loop
+mul-x c = omega (arith, few (c .before))
 
-cast-u : tie.Need-cast-u Inv-loop μ-loop
-cast-u c = omega (arith, c .slice-known3 .given (c .before .before .loop .head))
+slice-read-x : tie.Need-slice-read-x Inv-loop μ-loop
+slice-read-x c = omega (arith, few (c .before .before), c .before .before .loop .inv .0 .filled .room)
 
-around-requires : tie.Need-around-requires Inv-loop μ-loop
-around-requires c κs =
-    let p = c .before .before .before .before .before .before .before .before .pre in
-    let i = c .before .before .before .before .loop .inv in
-    (p .0, (i .1, i .1 .inside _ (omega (arith, c .before .before .before .loop-test .taken))))
+cast-x : tie.Need-cast-x Inv-loop μ-loop
+cast-x c = omega (arith, c .slice-known5 .given (c .before .before .loop .looked / 4))
 
-add-head : tie.Need-add-head Inv-loop μ-loop
-add-head c =
-    let i = c .before .before .before .before .before .before .before .before .before .loop .inv in
-    omega (arith, c .before .before .before .before .before .before .before .before .loop-test .taken, filled-le (i .1), area (c .before .before .before .before .before .before .before .before .before .before .before .before .before .pre .0 .size))
+visit-requires : tie.Need-visit-requires Inv-loop μ-loop
+visit-requires c κs = let l = c .before .before .before .before in (at-begin l .pre .0, (l .loop .inv .0 .filled, (l .loop .inv .0 .filled .inside _ (omega (arith, c .before .before .before .loop-test .taken)), omega arith)))
+
+add-looked : tie.Need-add-looked Inv-loop μ-loop
+add-looked c = omega (arith, few (after-visit c .before .before .before .before .before), after-visit c .before .before .before .before .loop-test .taken)
 
 loop-less : tie.Need-loop-less Inv-loop μ-loop
-loop-less c =
-    let i = c .before .before .before .before .before .before .before .before .before .loop .inv in
-    omega (arith, c .before .before .before .before .before .before .before .before .loop-test .taken, filled-le (i .1))
+loop-less c = omega (arith, few (after-visit c .before .before .before .before .before), after-visit c .before .before .before .before .loop-test .taken)
 
 loop-again : tie.Need-loop-again Inv-loop μ-loop
-loop-again c =
-    let i = c .before .before .before .before .before .before .before .before .before .loop .inv in
-    let e = c .before .before .before .before .around .ensures in
-    let l = c .before .before .before .before .before .before .before .before .loop-test .taken in
-    (omega (arith, c .before .before .before .before .before .before .before .before .loop-test .taken, e .1 .0 .le), e .0, only-more (i .2) (head-reached _ (i .1) (i .2) (omega (arith, c .before .before .before .before .before .before .before .before .loop-test .taken))) (e .1 .0), head-more _ (omega (arith, c .before .before .before .before .before .before .before .before .loop-test .taken)) (i .3) (e .1 .0) (e .1 .1), e .1 .0 .rowed ∙ i .4, e .1 .0 .room ∙ i .5)
+loop-again c = let r = after-visit c in let l = r .before .before .before .before .before in (going-on (l .loop .inv .0) (omega (arith, r .before .before .before .before .loop-test .taken)) (r .visit .ensures), r .visit .kept .1 .1 .1 .0 ∙ l .loop .inv .1, r .visit .kept .1 .1 .1 .1 .0 ∙ l .loop .inv .2)
 
 same-length : tie.Need-same-length Inv-loop μ-loop
-same-length c = c .before .loop .inv .4
+same-length c = c .before .loop .inv .1 ∙ after-mark (c .before .before) .mark .kept .0
 
 same-length-2 : tie.Need-same-length-2 Inv-loop μ-loop
-same-length-2 c = c .before .loop .inv .5
+same-length-2 c = c .before .loop .inv .2 ∙ after-mark (c .before .before) .mark .kept .1 .0
 
 returns : tie.Need-returns Inv-loop μ-loop
-returns c =
-    let i = c .before .loop .inv in
-    (whole _ (c .before .before .before .before .before .pre .0) _ _ _ _ (i .1) (i .2 .own) (i .2 .reached) (λ j l. i .3 j (omega (arith, c .loop-test .left))), (i .4, i .5))
+returns c = whole (c .before .loop .inv .0) (at-begin (c .before) .pre .0) (omega (arith, c .loop-test .left))
 
 pub fill-spec : {M : Type 1} → statement M
 fill-spec =
@@ -79,12 +81,15 @@ fill-spec =
     (tie.spec
     Inv-loop
     μ-loop
+    spot-of-requires
+    mark-requires
     loop-holds
-    mul-u
-    slice-read-u
-    cast-u
-    around-requires
-    add-head
+    mul-loop
+    mul-x
+    slice-read-x
+    cast-x
+    visit-requires
+    add-looked
     loop-less
     loop-again
     same-length

@@ -1,100 +1,85 @@
+-- Each test is a part of `LeadsOut`; the last one decides it (`leads`).
+use mathlib.Core.Path.{_≡_, sym, _∙_}
+use Prim.Native.Nat.{_*_, _/_, _%_, _<_}
 use native.Mathlib.Omega.{arith}
+use lib.ListN.{getD}
 use borrow.Author.Tests.{not-true, not-false}
-use Rattle.decide.proofs.DecideLaws.{decides-no, refuted}
-use Rattle.plan.proofs.MoveLaws.{placed}
-use Rattle.reach.proofs.LookLaws.{leads-on, move-asks, to-at, in-row, in-column}
-use Rattle.reach.proofs.OutLaws.{own-row, not-own, leads}
 use borrow.Author.Needs.{needs}
+use Rattle.decide.proofs.DecideLaws.{decides-no, refuted}
+use Rattle.plan.specs.Cells.{Stays, entered}
+use Rattle.plan.specs.Costs.{planOf, byte}
+use Rattle.plan.specs.Reached.{At}
+use Rattle.plan.proofs.MoveLaws.{entered-in, moved-at, spot-placed}
+use Rattle.reach.proofs.SpotLaws.{marked-asks, move-asks, byte-at}
+use Rattle.reach.proofs.OutLaws.{leads}
 use Rattle.reach.proofs.leads_out.Statement.{statement}
 use Rattle.reach.proofs.leads_out.Tie as tie
 
-mul-if1 : tie.Need-mul-if1
-mul-if1 c = search needs
+-- The places that the answers look back to.
+abbrev at-start : tie.After-spot-of → tie.Start
+at-start c = c .before .before .before .before .before
 
-add-if1 : tie.Need-add-if1
-add-if1 c = search needs
+abbrev after-spot : tie.After-stays-in → tie.After-spot-of
+after-spot c = c .before .before .before
+
+-- The place's byte and cell, the move inside the plan, and where it leads to.
+its-byte : (s : tie.Start) → getD (s .args .plan .now) (s .args .place) 0 ≡ byte (planOf (s .args .width) (s .args .height) (s .args .plan .now)) (s .args .place / 4) (s .args .place % 4)
+its-byte s = byte-at (planOf (s .args .width) (s .args .height) (s .args .plan .now)) (s .args .place)
+
+cell-in : (c : tie.After-spot-of) → let s = at-start c .args in s .place / 4 < s .height * s .width
+cell-in c = omega (arith, at-start c .pre .1 .1)
+
+stays : (c : tie.Else3) → let s = at-start (after-spot (c .before)) .args in Stays (s .width) (s .height) (s .place / 4) (s .place % 4)
+stays c = let a = after-spot (c .before) in c .before .stays-in .ensures _ (a .spot-of .ensures) (cell-in a) .so (not-false _ (c .if3 .left))
+
+to-at : (c : tie.After-moved) → let s = at-start (after-spot (c .before .before)) .args in At (s .width) (entered (s .width) (s .place / 4) (s .place % 4)) (c .moved .result)
+to-at c = let a = after-spot (c .before .before) in moved-at (at-start a .pre .0 .size .wide) (a .spot-of .ensures) (stays (c .before)) (c .moved .ensures)
 
 shared-slice-read-if1 : tie.Need-shared-slice-read-if1
 shared-slice-read-if1 c = search needs
 
 returns : tie.Need-returns
-returns c = decides-no (λ o. c .if1 .taken (o .is-shut))
+returns c = decides-no (λ o. c .if1 .taken (its-byte (c .before .before .before .before) ∙ o .is-shut))
 
-stays-in-requires : tie.Need-stays-in-requires
-stays-in-requires c κs =
-    let p = c .before .before .before .before .pre in
-    let q = placed (p .0 .size) (p .1 .1 .2) (p .1 .1 .0) in
-    (p .1 .1 .1, record { row = q .0; column = q .1 })
-
-returns-2 : tie.Need-returns-2
-returns-2 c =
-    let p = c .before .before .before .before .before .before .pre in
-    decides-no (λ o. refuted (c .before .stays-in .ensures _ (p .1 .1 .2) (p .1 .1 .0)) (not-true _ (c .if2 .taken)) (o .stays-in))
-
-mul-is-marked : tie.Need-mul-is-marked
-mul-is-marked c =
-    let p = c .before .before .before .before .before .before .pre in
-    omega (arith, own-row _ (p .0) _ (p .1 .1 .0) _ (p .1 .1 .2), p .0 .size .low)
-
-shared-slice-read-is-marked : tie.Need-shared-slice-read-is-marked
-shared-slice-read-is-marked c =
-    let p = c .before .before .before .before .before .before .before .pre in
-    omega (arith, own-row _ (p .0) _ (p .1 .1 .0) _ (p .1 .1 .2), p .1 .0)
+spot-of-requires : tie.Need-spot-of-requires
+spot-of-requires c κs = search needs
 
 is-marked-requires : tie.Need-is-marked-requires
-is-marked-requires c κs = search needs
+is-marked-requires c κs = let s = at-start c in marked-asks (s .pre .0) (cell-in c) (c .spot-of .ensures) (s .args .rows .now) (s .pre .1 .0)
+
+returns-2 : tie.Need-returns-2
+returns-2 c = let a = c .before .before in decides-no (λ o. refuted (c .before .is-marked .ensures _ _ (a .spot-of .ensures)) (not-true _ (c .if2 .taken)) (o .within))
+
+stays-in-requires : tie.Need-stays-in-requires
+stays-in-requires c κs = let a = c .before .before in (omega arith, spot-placed (at-start a .pre .0 .size) (a .spot-of .ensures) (cell-in a))
 
 returns-3 : tie.Need-returns-3
-returns-3 c =
-    let p = c .before .before .before .before .before .before .before .before .before .pre in
-    decides-no (not-own _ _ _ _ _ (p .1 .1 .2) (c .before .is-marked .ensures) (not-true _ (c .if3 .taken)))
+returns-3 c = let a = after-spot (c .before) in decides-no (λ o. refuted (c .before .stays-in .ensures _ (a .spot-of .ensures) (cell-in a)) (not-true _ (c .if3 .taken)) (o .stays-in))
 
 moved-requires : tie.Need-moved-requires
-moved-requires c κs =
-    let p = c .before .before .before .before .before .before .before .before .before .pre in
-    let m = c .before .before .before .before .stays-in .ensures _ (p .1 .1 .2) (p .1 .1 .0) .so (not-false _ (c .before .before .before .if2 .left)) in
-    move-asks _ (p .0) _ _ (p .1 .1 .0) (p .1 .1 .1) (p .1 .1 .2) (leads-on m)
-
-mul-is-marked-2 : tie.Need-mul-is-marked-2
-mul-is-marked-2 c =
-    let p = c .before .before .before .before .before .before .before .before .before .before .pre in
-    let m = c .before .before .before .before .before .stays-in .ensures _ (p .1 .1 .2) (p .1 .1 .0) .so (not-false _ (c .before .before .before .before .if2 .left)) in
-    omega (arith, in-row _ (p .0) _ _ (p .1 .1 .0) (p .1 .1 .1) (p .1 .1 .2) (leads-on m) (c .moved .result) (c .moved .ensures), p .0 .size .low)
-
-shared-slice-read-is-marked-2 : tie.Need-shared-slice-read-is-marked-2
-shared-slice-read-is-marked-2 c =
-    let p = c .before .before .before .before .before .before .before .before .before .before .before .pre in
-    let m = c .before .before .before .before .before .before .stays-in .ensures _ (p .1 .1 .2) (p .1 .1 .0) .so (not-false _ (c .before .before .before .before .before .if2 .left)) in
-    omega (arith, in-row _ (p .0) _ _ (p .1 .1 .0) (p .1 .1 .1) (p .1 .1 .2) (leads-on m) (c .before .moved .result) (c .before .moved .ensures), p .1 .0)
+moved-requires c κs = let a = after-spot (c .before) in move-asks (at-start a .pre .0) (cell-in a) (a .spot-of .ensures) (omega arith) (stays c)
 
 is-marked-requires-2 : tie.Need-is-marked-requires-2
-is-marked-requires-2 c κs =
-    let p = c .before .before .before .before .before .before .before .before .before .before .before .pre in
-    let m = c .before .before .before .before .before .before .stays-in .ensures _ (p .1 .1 .2) (p .1 .1 .0) .so (not-false _ (c .before .before .before .before .before .if2 .left)) in
-    omega (arith, in-column _ (p .0) _ _ (p .1 .1 .0) (p .1 .1 .1) (p .1 .1 .2) (leads-on m) (c .before .moved .result) (c .before .moved .ensures), p .0 .size .narrow)
+is-marked-requires-2 c κs = let s = at-start (after-spot (c .before .before)) in marked-asks (s .pre .0) (entered-in _ (s .pre .0) _ _ (cell-in (after-spot (c .before .before))) (omega arith) (stays (c .before))) (to-at c) (s .args .rows .now) (s .pre .1 .0)
 
 returns-4 : tie.Need-returns-4
 returns-4 c =
-    let p = c .before .before .before .before .before .before .before .before .before .before .before .before .pre in
-    let m = c .before .before .before .before .before .before .before .stays-in .ensures _ (p .1 .1 .2) (p .1 .1 .0) .so (not-false _ (c .before .before .before .before .before .before .if2 .left)) in
-    leads _ _ _ _ _ (p .1 .1 .2) (c .before .before .moved .result) (to-at _ (p .0) _ _ (p .1 .1 .0) (p .1 .1 .1) (p .1 .1 .2) (leads-on m) (c .before .before .moved .result) (c .before .before .moved .ensures)) (c .before .before .before .before .before .before .before .before .if1 .left) m (c .before .before .before .before .is-marked .ensures) (not-false _ (c .before .before .before .if3 .left)) (c .is-marked2 .ensures)
+    let e = c .before .before in
+    let m = e .before .before .before in
+    let a = m .before in
+    leads (m .is-marked .ensures _ _ (a .spot-of .ensures) .so (not-false _ (e .before .before .if2 .left))) (stays e) (sym (its-byte (at-start a)) ∙ a .before .if1 .left) (c .is-marked2 .ensures _ _ (to-at (c .before)))
 
 pub leads-out-spec : {M : Type 1} → statement M
 leads-out-spec =
     tie.close
     (tie.spec
-    mul-if1
-    add-if1
     shared-slice-read-if1
     returns
-    stays-in-requires
-    returns-2
-    mul-is-marked
-    shared-slice-read-is-marked
+    spot-of-requires
     is-marked-requires
+    returns-2
+    stays-in-requires
     returns-3
     moved-requires
-    mul-is-marked-2
-    shared-slice-read-is-marked-2
     is-marked-requires-2
     returns-4)

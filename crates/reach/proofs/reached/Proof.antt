@@ -1,7 +1,8 @@
-use Rattle.plan.proofs.MoveLaws.{area}
+-- Refused with the number that `refusal` found; else `report` works on fresh arrays, which are large enough for every plan.
 use native.Mathlib.Omega.{arith}
-use Rattle.reach.proofs.ReportLaws.{reports-number, plan-granted, zeros}
 use borrow.Author.Needs.{needs}
+use Rattle.plan.proofs.MoveLaws.{area}
+use Rattle.reach.proofs.ReportLaws.{reports-number, plan-granted, zeros}
 use Rattle.reach.proofs.reached.Statement.{statement}
 use Rattle.reach.proofs.reached.Tie as tie
 
@@ -22,8 +23,10 @@ slice-aggregate-report-3 c = search needs
 
 report-requires : tie.Need-report-requires
 report-requires c κs =
-    let g = plan-granted (c .before .before .before .before .before .before .refusal .ensures) (c .before .before .before .before .before .if1 .left) in
-    (g .0, (g .1, (record { rowed = omega (arith, g .0 .size .low); room = omega (arith, area (g .0 .size)); none = zeros 64 }, omega (arith, area (g .0 .size)))))
+    let e = c .before .before .before .before .before in
+    let g = plan-granted (e .before .refusal .ensures) (e .if1 .left) .0 in
+    let z = g .0 .size in
+    (g .0, (g .1, (record { rowed = omega (arith, z .low); room = omega (arith, area z); none = zeros 64 }, omega (arith, area z))))
 
 same-length : tie.Need-same-length
 same-length c = search needs
