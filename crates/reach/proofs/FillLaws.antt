@@ -10,14 +10,14 @@ use lib.Arith.{digits-lt}
 use lib.ListN.{length, getD, set, length-set}
 use lib.Pow.{pow-pos}
 use lib.Seq.{getD-set-same, getD-set-other}
-use borrow.Author.Count.{below-none, below-more}
+use borrow.Author.Count.{below-more}
 use Rattle.method.specs.Graph.{move, Comes}
 use Rattle.method.specs.Walk.{Chain, stay, go}
 use Rattle.plan.specs.Directions.{opposite}
 use Rattle.plan.specs.Cells.{Size, Stays, entered}
 use Rattle.plan.specs.Costs.{Plan, cells, byte, shut, Obeys}
 use Rattle.plan.specs.Grid.{outBy, graphOf}
-use Rattle.plan.specs.Reached.{At, Placed}
+use Rattle.plan.specs.Reached.{At}
 use Rattle.plan.specs.declared.Spot.{Spot}
 use Rattle.plan.proofs.CellLaws.{stands-row, stands-column, row-lt}
 use Rattle.plan.proofs.GridLaws.{up-to-is, up-to-has, graph-laws}
@@ -25,7 +25,7 @@ use Rattle.plan.proofs.MoveLaws.{out-shut, out-open, open-stays, spot-placed, e
 use Rattle.reach.specs.Bits.{bit, bitOf, Marked, sumTo}
 use Rattle.reach.specs.Reachable.{Reachable, Part}
 use Rattle.reach.specs.Outs.{Listed}
-use Rattle.reach.specs.Filling.{cellBy, codeOf, Within, Clean, Filled, Put, Looks, Visited, Going}
+use Rattle.reach.specs.Filling.{cellBy, codeOf, Within, Clean, Filled, Markable, Put, Looks, Visited, Going}
 use Rattle.reach.proofs.BitLaws.{bit-none, bit-set, bit-other, set-narrow, sum-more, sum-none, sum-le, bitOf-le}
 
 -- ---- what can be reached
@@ -139,8 +139,8 @@ module _ (p : Plan) (O : Obeys p) (rows list : List ℕ) (count v : ℕ) (at : S
   fits = omega (arith, counted⁺, sum-le (bitOf (p .width) rows⁺) (bitOf-le (p .width) rows⁺) (cells p), F .room)
 
   -- What `mark` asks.
-  pub to-mark : ((at .row < length rows) × Placed at × (bit (getD rows (at .row) 0) (at .column) ≡ 0)) × (count < length list)
-  to-mark = ((omega (arith, in-row, F .rowed), spot-placed (O .size) A lv, clear-bit), fits)
+  to-mark : Markable rows list count at
+  to-mark = record { placed = spot-placed (O .size) A lv; row-lt = omega (arith, in-row, F .rowed); clear = clear-bit; room = fits }
 
   last-is : getD list⁺ count 0 ≡ 64 * at .row + at .column
   last-is = getD-set-same list count (64 * at .row + at .column) 0 fits
@@ -192,7 +192,7 @@ filled-none {p} {rows} {list} C = (
 
 -- .. then the hunter's cell.
 module _ {p : Plan} (O : Obeys p) {h : ℕ} (lh : h < cells p) {rows list : List ℕ} (C : Clean p rows list) {at : Spot} (A : At (p .width) h at) where
-  pub first-asks : ((at .row < length rows) × Placed at × (bit (getD rows (at .row) 0) (at .column) ≡ 0)) × (0 < length list)
+  pub first-asks : Markable rows list 0 at
   first-asks = let N = filled-none C in to-mark p O rows list 0 h at (N .1) A lh (N .0 h)
 
   pub going-first : {rows′ list′ : List ℕ} {n : ℕ} → Put rows list 0 at rows′ list′ n → Going p h rows′ list′ n 0
@@ -226,7 +226,7 @@ module _ {p : Plan} (O : Obeys p) {rows list : List ℕ} {count : ℕ} (F : Fill
     clear : bitOf (p .width) rows (entered (p .width) (cellBy (p .width) x) d) ≡ 0
     clear = omega (arith, bitOf-le (p .width) rows (entered (p .width) (cellBy (p .width) x) d), m)
 
-    pub new-asks : ((at .row < length rows) × Placed at × (bit (getD rows (at .row) 0) (at .column) ≡ 0)) × (count < length list)
+    pub new-asks : Markable rows list count at
     new-asks = to-mark p O rows list count (entered (p .width) (cellBy (p .width) x) d) at F A lv clear
 
     pub one-new : {rows′ list′ : List ℕ} {n : ℕ} → Put rows list count at rows′ list′ n → Visited p x d rows list count rows′ list′ n

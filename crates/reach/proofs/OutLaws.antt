@@ -1,5 +1,5 @@
 -- The shut moves that lead out, as the walk over the places finds them; two lists of them are equal.
-use mathlib.Core.Path.{_≡_, refl, sym, ap, subst, _∙_}
+use mathlib.Core.Path.{_≡_, refl, ap, subst, _∙_}
 use mathlib.Core.Bool.{Bool, true, false, not}
 use mathlib.Core.List.{List}
 use Prim.Native.Nat.{ℕ, zero, suc, _+_, _/_, _%_, _≤_, _<_}
@@ -65,9 +65,11 @@ module _ {p : Plan} {In : ℕ → Type 0} where
     outs-put room o = record {
       few = omega (arith, O .few);
       below = below-more (λ i. getD (set list count place) i 0 < place + 1) count (λ i l. rw (kept i l) (omega (arith, O .below i l))) (rw last-is (omega arith));
-      each = below-more (λ i. LeadsOut p In (getD (set list count place) i 0 / 4) (getD (set list count place) i 0 % 4)) count (λ i l. rw (kept i l) (O .each i l)) (rw last-is o);
-      all = below-more (λ x. LeadsOut p In (x / 4) (x % 4) → Listed (set list count place) (count + 1) x) place (λ x l k. later (O .all x l k)) (λ k. record { place = count; low = omega arith; is = last-is });
-      ordered = λ i j l m. below-more (λ j. (i : ℕ) → i < j → getD (set list count place) i 0 < getD (set list count place) j 0) count (λ j m i l. rw (kept i (omega arith), kept j m) (O .ordered i j l m)) (λ i l. rw (kept i l, last-is) (O .below i l)) j m i l;
+      each = below-more (λ i. LeadsOut p In (getD (set list count place) i 0 / 4) (getD (set list count place) i 0 % 4)) count
+          (λ i l. rw (kept i l) (O .each i l)) (rw last-is o);
+      all = below-more (λ x. LeadsOut p In (x / 4) (x % 4) → Listed (set list count place) (count + 1) x) place
+          (λ x l k. later (O .all x l k)) (λ k. record { place = count; low = omega arith; is = last-is });
+      ordered = λ i j l m. ordered j m i l;
     }
       where
         last-is : getD (set list count place) count 0 ≡ place
@@ -78,6 +80,12 @@ module _ {p : Plan} {In : ℕ → Type 0} where
 
         later : {x : ℕ} → Listed list count x → Listed (set list count place) (count + 1) x
         later L = record { place = L .place; low = omega (arith, L .low); is = kept (L .place) (L .low) ∙ L .is }
+
+        ordered : (j : ℕ) → j < count + 1 → (i : ℕ) → i < j → getD (set list count place) i 0 < getD (set list count place) j 0
+        ordered =
+            below-more (λ j. (i : ℕ) → i < j → getD (set list count place) i 0 < getD (set list count place) j 0) count
+            (λ j m i l. rw (kept i (omega arith), kept j m) (O .ordered i j l m))
+            (λ i l. rw (kept i l, last-is) (O .below i l))
 
   -- No list of them is shorter: each stands in it at its own number or later.
   module _ {l m : List ℕ} {k n z : ℕ} (A : Outs p In l k z) (B : Outs p In m n z) where

@@ -18,7 +18,7 @@ use Rattle.reach.specs.Outs.{LeadsOut, Listed}
 use Rattle.reach.specs.Promise.{ReachTold, reachTold, Room, ReachRules, Kept, Written, Reports}
 use Rattle.reach.specs.declared.Reaching.{Reaching}
 use Rattle.reach.specs.declared.Reaching.the-variants.{Reaches, Refused}
-use Rattle.reach.proofs.BitLaws.{same-bits, row-bit, bitOf-le, sum-same, ones-cells, Those, those}
+use Rattle.reach.proofs.BitLaws.{same-bits, row-bit, bitOf-le, ones-cells, Those, those}
 use Rattle.reach.proofs.FillLaws.{reach-self}
 use Rattle.reach.proofs.OutLaws.{fewest, at-most}
 use Rattle.reach.proofs.ReportLaws.{plan-granted}
@@ -60,10 +60,13 @@ module _ {p : Plan} {h : ℕ} {rows moves : List ℕ} {told : ReachTold} {rows�
   -- A place is listed exactly if its move is shut, stays in the plan and leads out of the part; the places rise, so that each is listed once.
   pub out-exactly : ((s d : ℕ) → d < 4 → Listed moves′ (told .moves) (4 * s + d) ↔ LeadsOut p (Reachable p h) s d)
       × ((i j : ℕ) → i < j → j < told .moves → getD moves′ i 0 < getD moves′ j 0)
-  out-exactly = (λ s d ld. (λ L. rw (at s d ld .0, at s d ld .1) at (rw (L .is) at (W .outs .each (L .place) (L .low))), λ o. W .outs .all (4 * s + d) (omega (arith, o .stays-in .from-in)) (rw (at s d ld .0, at s d ld .1) o)), W .outs .ordered)
+  out-exactly = (λ s d ld. exactly s d (omega arith) (omega arith), W .outs .ordered)
     where
-      at : (s d : ℕ) → d < 4 → ((4 * s + d) / 4 ≡ s) × ((4 * s + d) % 4 ≡ d)
-      at s d ld = (omega arith, omega arith)
+      exactly : (s d : ℕ) → (4 * s + d) / 4 ≡ s → (4 * s + d) % 4 ≡ d → Listed moves′ (told .moves) (4 * s + d) ↔ LeadsOut p (Reachable p h) s d
+      exactly s d q m = (
+        λ L. rw (L .is, q, m) at (W .outs .each (L .place) (L .low)),
+        λ o. W .outs .all (4 * s + d) (omega (arith, o .stays-in .from-in)) (rw (q, m) o),
+      )
 
   -- The hunter's own cell is among them, so the number is not 0.
   some-cells : h < cells p → told .cells ≢ 0

@@ -6,8 +6,9 @@ use Prim.Native.Nat.{ℕ, _+_, _*_, _/_, _%_, _≤_, _<_, _^_}
 use lib.ListN.{length, getD, set}
 use Rattle.plan.specs.Cells.{row, column, entered}
 use Rattle.plan.specs.Costs.{Plan, cells, byte, shut}
+use Rattle.plan.specs.Reached.{Placed}
 use Rattle.plan.specs.declared.Spot.{Spot}
-use Rattle.reach.specs.Bits.{bitOf, Marked, sumTo}
+use Rattle.reach.specs.Bits.{bit, bitOf, Marked, sumTo}
 use Rattle.reach.specs.Reachable.{Reachable}
 use Rattle.reach.specs.Outs.{Listed}
 use Rattle.reach.specs.Promise.{Kept}
@@ -39,6 +40,13 @@ pub record Filled (p : Plan) (rows list : List ℕ) (count : ℕ) : Type 0 where
   pub listed : (s : ℕ) → s < cells p → Marked (p .width) rows s → Listed list count (codeOf (p .width) s)
   pub inside : (i : ℕ) → i < count → Within (p .width) (p .height) (getD list i 0)
   pub counted : count ≡ sumTo (bitOf (p .width) rows) (cells p)
+
+-- The cell of a spot can be marked: its bit is 0, and the list has room.
+pub record Markable (rows list : List ℕ) (count : ℕ) (at : Spot) : Type 0 where
+  pub placed : Placed at
+  pub row-lt : at .row < length rows
+  pub clear : bit (getD rows (at .row) 0) (at .column) ≡ 0
+  pub room : count < length list
 
 -- The cell of a spot is marked and stands at the list's end.
 pub record Put (rows list : List ℕ) (count : ℕ) (at : Spot) (rows′ list′ : List ℕ) (count′ : ℕ) : Type 0 where

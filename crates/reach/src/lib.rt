@@ -3,16 +3,16 @@ use plan;
 use plan::Spot;
 ghost use mathlib.Core.Path.{_≡_};
 ghost use Prim.Native.Nat.{ℕ, _+_, _*_, _/_, _%_, _<_, _≤_};
-ghost use lib.ListN.{length, getD};
+ghost use lib.ListN.{length};
 ghost use Rattle.decide.specs.Decides.{Decides};
 ghost use Rattle.decide.specs.Ruled.{Passed};
 ghost use Rattle.plan.specs.Costs.{planOf, Obeys};
-ghost use Rattle.plan.specs.Reached.{At, Placed};
-ghost use Rattle.reach.specs.Bits.{bit, onesOf, Marked};
+ghost use Rattle.plan.specs.Reached.{At};
+ghost use Rattle.reach.specs.Bits.{Marked, onesOf};
 ghost use Rattle.reach.specs.Reachable.{Part};
 ghost use Rattle.reach.specs.Outs.{LeadsOut, Outs};
 ghost use Rattle.reach.specs.Promise.{PlanRules, Reports};
-ghost use Rattle.reach.specs.Filling.{Filled, Within, Put, Visited, Clean, Copied};
+ghost use Rattle.reach.specs.Filling.{Clean, Copied, Filled, Markable, Put, Visited, Within};
 
 // The bits of a row. A cell waits in the fill's list as 64 × row + column: its spot comes back without a division by the width.
 const BITS: usize = 64;
@@ -28,8 +28,7 @@ fn is_marked(rows: &[u64], at: Spot) -> bool
 
 // Marks the cell of a spot, whose bit is 0, and puts it at the list's end.
 fn mark(rows: &mut [u64], list: &mut [u16], count: usize, at: Spot) -> usize
-    requires { ⌜ (at .row < length (now rows)) × Placed at × (bit (getD (now rows) (at .row) 0) (at .column) ≡ 0) ⌝ }
-    requires { ⌜ count < length (now list) ⌝ }
+    requires { ⌜ Markable (now rows) (now list) count at ⌝ }
     ensures { λ r. ⌜ Put (now (rows .entry)) (now (list .entry)) count at (now (rows .exit)) (now (list .exit)) r ⌝ }
 {
     let row = at.row;

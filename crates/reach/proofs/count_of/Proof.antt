@@ -2,8 +2,7 @@
 use mathlib.Core.Path.{_≡_, refl, ap, _∙_}
 use Prim.Native.Nat.{_≤_, _-_, _*_}
 use native.Mathlib.Omega.{arith}
-use lib.Count.{ones, ones-le}
-use lib.ListN.{getD}
+use lib.Count.{ones-le}
 use Rattle.reach.specs.Bits.{onesOf, sumTo}
 use Rattle.reach.proofs.BitLaws.{sum-next}
 use Rattle.reach.proofs.count_of.Statement.{statement}

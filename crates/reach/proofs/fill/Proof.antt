@@ -1,8 +1,8 @@
 -- The hunter's cell is marked first; then each look keeps `Going` (`going-on`), and with no move left the part is whole.
 use mathlib.Core.Path.{_≡_, refl, _∙_}
-use Prim.Native.Nat.{ℕ, _-_, _*_, _/_, _<_, _≤_}
+use Prim.Native.Nat.{_-_, _*_, _/_, _≤_}
 use native.Mathlib.Omega.{arith}
-use lib.ListN.{length, length-set}
+use lib.ListN.{length}
 use Rattle.plan.specs.Costs.{planOf}
 use Rattle.plan.proofs.MoveLaws.{area}
 use Rattle.reach.specs.Filling.{Going}
@@ -29,6 +29,9 @@ at-begin c = at-start (after-mark (c .before))
 abbrev after-visit : tie.After-slice-known7 Inv-loop μ-loop → tie.After-visit Inv-loop μ-loop
 after-visit c = c .before .before .before .before
 
+abbrev in-loop : tie.After-visit Inv-loop μ-loop → tie.In-loop Inv-loop μ-loop
+in-loop c = c .before .before .before .before
+
 -- No more cells are listed than the plan has.
 few : (c : tie.At-loop Inv-loop μ-loop) → let s = at-begin c .args in (c .loop .count ≤ s .height * s .width) × (s .height * s .width ≤ 4096)
 few c = (going-le (c .loop .inv .0), area (at-begin c .pre .0 .size))
@@ -37,10 +40,16 @@ spot-of-requires : tie.Need-spot-of-requires Inv-loop μ-loop
 spot-of-requires c κs = c .before .before .before .pre .0 .size .wide
 
 mark-requires : tie.Need-mark-requires Inv-loop μ-loop
-mark-requires c κs = let s = c .before .before in let p = s .before .before .before .before .pre in first-asks (p .0) (p .1 .0) (p .1 .1) (s .spot-of .ensures)
+mark-requires c κs =
+    let s = c .before .before in
+    let p = s .before .before .before .before .pre in
+    first-asks (p .0) (p .1 .0) (p .1 .1) (s .spot-of .ensures)
 
 loop-holds : tie.Need-loop-holds Inv-loop μ-loop
-loop-holds c = let m = after-mark c in let p = at-start m .pre in (going-first (p .0) (p .1 .0) (p .1 .1) (m .before .before .before .spot-of .ensures) (m .mark .ensures), refl, refl)
+loop-holds c =
+    let m = after-mark c in
+    let p = at-start m .pre in
+    (going-first (p .0) (p .1 .0) (p .1 .1) (m .before .before .before .spot-of .ensures) (m .mark .ensures), refl, refl)
 
 mul-loop : tie.Need-mul-loop Inv-loop μ-loop
 mul-loop c = omega (arith, few c)
@@ -55,16 +64,24 @@ cast-x : tie.Need-cast-x Inv-loop μ-loop
 cast-x c = omega (arith, c .slice-known5 .given (c .before .before .loop .looked / 4))
 
 visit-requires : tie.Need-visit-requires Inv-loop μ-loop
-visit-requires c κs = let l = c .before .before .before .before in (at-begin l .pre .0, (l .loop .inv .0 .filled, (l .loop .inv .0 .filled .inside _ (omega (arith, c .before .before .before .loop-test .taken)), omega arith)))
+visit-requires c κs =
+    let t = c .before .before .before in
+    let F = t .before .loop .inv .0 .filled in
+    (at-begin (t .before) .pre .0, (F, (F .inside _ (omega (arith, t .loop-test .taken)), omega arith)))
 
 add-looked : tie.Need-add-looked Inv-loop μ-loop
-add-looked c = omega (arith, few (after-visit c .before .before .before .before .before), after-visit c .before .before .before .before .loop-test .taken)
+add-looked c = let t = in-loop (after-visit c) in omega (arith, few (t .before), t .loop-test .taken)
 
 loop-less : tie.Need-loop-less Inv-loop μ-loop
-loop-less c = omega (arith, few (after-visit c .before .before .before .before .before), after-visit c .before .before .before .before .loop-test .taken)
+loop-less c = let t = in-loop (after-visit c) in omega (arith, few (t .before), t .loop-test .taken)
 
 loop-again : tie.Need-loop-again Inv-loop μ-loop
-loop-again c = let r = after-visit c in let l = r .before .before .before .before .before in (going-on (l .loop .inv .0) (omega (arith, r .before .before .before .before .loop-test .taken)) (r .visit .ensures), r .visit .kept .1 .1 .1 .0 ∙ l .loop .inv .1, r .visit .kept .1 .1 .1 .1 .0 ∙ l .loop .inv .2)
+loop-again c =
+    let r = after-visit c in
+    let t = in-loop r in
+    let i = t .before .loop .inv in
+    let same = r .visit .kept .1 .1 .1 in
+    (going-on (i .0) (omega (arith, t .loop-test .taken)) (r .visit .ensures), same .0 ∙ i .1, same .1 .0 ∙ i .2)
 
 same-length : tie.Need-same-length Inv-loop μ-loop
 same-length c = c .before .loop .inv .1 ∙ after-mark (c .before .before) .mark .kept .0

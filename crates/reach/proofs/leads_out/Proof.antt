@@ -60,14 +60,18 @@ moved-requires : tie.Need-moved-requires
 moved-requires c κs = let a = after-spot (c .before) in move-asks (at-start a .pre .0) (cell-in a) (a .spot-of .ensures) (omega arith) (stays c)
 
 is-marked-requires-2 : tie.Need-is-marked-requires-2
-is-marked-requires-2 c κs = let s = at-start (after-spot (c .before .before)) in marked-asks (s .pre .0) (entered-in _ (s .pre .0) _ _ (cell-in (after-spot (c .before .before))) (omega arith) (stays (c .before))) (to-at c) (s .args .rows .now) (s .pre .1 .0)
+is-marked-requires-2 c κs =
+    let a = after-spot (c .before .before) in
+    let s = at-start a in
+    marked-asks (s .pre .0) (entered-in _ (s .pre .0) _ _ (cell-in a) (omega arith) (stays (c .before))) (to-at c) (s .args .rows .now) (s .pre .1 .0)
 
 returns-4 : tie.Need-returns-4
 returns-4 c =
     let e = c .before .before in
     let m = e .before .before .before in
     let a = m .before in
-    leads (m .is-marked .ensures _ _ (a .spot-of .ensures) .so (not-false _ (e .before .before .if2 .left))) (stays e) (sym (its-byte (at-start a)) ∙ a .before .if1 .left) (c .is-marked2 .ensures _ _ (to-at (c .before)))
+    let own = m .is-marked .ensures _ _ (a .spot-of .ensures) .so (not-false _ (e .before .before .if2 .left)) in
+    leads own (stays e) (sym (its-byte (at-start a)) ∙ a .before .if1 .left) (c .is-marked2 .ensures _ _ (to-at (c .before)))
 
 pub leads-out-spec : {M : Type 1} → statement M
 leads-out-spec =

@@ -1,5 +1,5 @@
 -- The bit is 0, so the sum sets it and fits (`set-narrow`).
-use mathlib.Core.Path.{refl, ap}
+use mathlib.Core.Path.{refl}
 use borrow.Author.Needs.{needs}
 use Rattle.reach.proofs.BitLaws.{one-shifted, set-narrow}
 use Rattle.reach.proofs.mark.Statement.{statement}
@@ -15,7 +15,10 @@ shl-rows : tie.Need-shl-rows
 shl-rows c = search needs
 
 add-rows : tie.Need-add-rows
-add-rows c = record { fits = rw (one-shifted (c .before .args .at .column) (c .before .pre .0 .1 .column)) (set-narrow _ _ 64 (c .before .pre .0 .2) (c .before .pre .0 .1 .column) (c .slice-known .given (c .before .args .at .row) .fits)) }
+add-rows c =
+    let s = c .before in
+    let l = s .pre .placed .column in
+    record { fits = rw (one-shifted (s .args .at .column) l) (set-narrow _ _ 64 (s .pre .clear) l (c .slice-known .given (s .args .at .row) .fits)) }
 
 mul-rows-2 : tie.Need-mul-rows-2
 mul-rows-2 c = search needs
@@ -48,7 +51,9 @@ same-length-2 : tie.Need-same-length-2
 same-length-2 c = search needs
 
 returns : tie.Need-returns
-returns c = record { rows-are = rw (one-shifted (c .before .before .args .at .column) (c .before .before .pre .0 .1 .column)) refl; list-is = refl; one-more = refl }
+returns c =
+    let s = c .before .before in
+    record { rows-are = rw (one-shifted (s .args .at .column) (s .pre .placed .column)) refl; list-is = refl; one-more = refl }
 
 pub mark-spec : {M : Type 1} → statement M
 mark-spec =

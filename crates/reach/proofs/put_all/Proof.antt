@@ -1,6 +1,6 @@
 -- Place by place (`put_out`), up to the last of the plan.
 use mathlib.Core.Path.{_≡_, refl, _∙_}
-use Prim.Native.Nat.{_≤_, _-_, _*_}
+use Prim.Native.Nat.{_≤_, _-_}
 use native.Mathlib.Omega.{arith}
 use lib.ListN.{length}
 use Rattle.plan.specs.Costs.{planOf}
