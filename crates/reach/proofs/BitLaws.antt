@@ -9,15 +9,16 @@ use native.Mathlib.Numerals.{one-add, add-one}
 use native.Mathlib.Omega.{arith}
 use lib.Arith.{digits-div, digits-mod}
 use lib.Count.{ones, ones-step, ones-le}
-use lib.ListN.{length, getD}
+use lib.ListN.{getD}
 use lib.Pow.{pow-pos, shl-exact, shr-shr}
-use Rattle.method.specs.Walk.{Once, none-yet, one-more}
+use Rattle.method.specs.Walk.{none-yet, one-more}
 use Rattle.reach.specs.Bits.{bit, bitOf, onesOf, sumTo}
+use Rattle.reach.specs.Reachable.{Number}
 
 -- ---- one number
 
 -- A bit above the lowest is one of the half.
-pub bit-zero : (x : ℕ) → bit x 0 ≡ x % 2
+bit-zero : (x : ℕ) → bit x 0 ≡ x % 2
 unfolding bit
 bit-zero x = ap (λ y. y % 2) (div-one x)
 
@@ -142,20 +143,13 @@ bitOf-le w rows s = bit-le (getD rows (s / w) 0) (s % w)
 
 -- ---- as many as the sum
 
--- The numbers below n whose bit is 1, each once.
-pub record Those (f : ℕ → ℕ) (n : ℕ) : Type 0 where
-  pub list : List ℕ
-  pub once : Once list
-  pub so : (s : ℕ) → List·Memᴰ s list → (s < n) × (f s ≡ 1)
-  pub whenever : (s : ℕ) → s < n → f s ≡ 1 → List·Memᴰ s list
-  pub long : length list ≡ sumTo f n
-
-pub those : (f : ℕ → ℕ) → ((s : ℕ) → f s ≤ 1) → (n : ℕ) → Those f n
+-- The numbers below n whose bit is 1.
+pub those : (f : ℕ → ℕ) → ((s : ℕ) → f s ≤ 1) → (n : ℕ) → Number (λ s. f s ≡ 1) n (sumTo f n)
 unfolding sumTo
 those f le zero = record { list = []; once = none-yet; so = λ s i. absurd (List·Memᴰ·not-nil i); whenever = λ s l e. absurd (omega arith); long = refl }
 those f le (suc n) = at (those f le n) (ℕ-discrete (f n) 1)
   where
-    at : Those f n → Dec (f n ≡ 1) → Those f (suc n)
+    at : Number (λ s. f s ≡ 1) n (sumTo f n) → Dec (f n ≡ 1) → Number (λ s. f s ≡ 1) (suc n) (sumTo f n + f n)
     at T (yes e) = record {
       list = n ∷ T .list;
       once = one-more (λ i. omega (arith, T .so n i .0)) (T .once);

@@ -14,7 +14,7 @@ use borrow.Author.Count.{below-more}
 use Rattle.method.specs.Graph.{move, Comes}
 use Rattle.method.specs.Walk.{Chain, stay, go}
 use Rattle.plan.specs.Directions.{opposite}
-use Rattle.plan.specs.Cells.{Size, Stays, entered}
+use Rattle.plan.specs.Cells.{Size, entered}
 use Rattle.plan.specs.Costs.{Plan, cells, byte, shut, Obeys}
 use Rattle.plan.specs.Grid.{outBy, graphOf}
 use Rattle.plan.specs.Reached.{At}
@@ -86,7 +86,16 @@ in-plan {width} {height} {x} I = digits-lt {q = x / 64} {m = height} {r = x % 64
 
 -- ---- one cell more
 
-module _ (p : Plan) (O : Obeys p) (rows list : List ℕ) (count v : ℕ) (at : Spot)
+-- Cell v is marked and stands at the list's end, the rest is kept.
+record Added (p : Plan) (rows list : List ℕ) (count v : ℕ) (rows′ list′ : List ℕ) (count′ : ℕ) : Type 0 where
+  filled : Filled p rows′ list′ count′
+  adds : Marked (p .width) rows′ v
+  grows : (s : ℕ) → Marked (p .width) rows s → Marked (p .width) rows′ s
+  kept : (i : ℕ) → i < count → getD list′ i 0 ≡ getD list i 0
+  last : cellBy (p .width) (getD list′ count 0) ≡ v
+  one-more : count′ ≡ count + 1
+
+module _ {p : Plan} (O : Obeys p) {rows list : List ℕ} {count v : ℕ} {at : Spot}
     (F : Filled p rows list count) (A : At (p .width) v at) (lv : v < cells p) (clear : bitOf (p .width) rows v ≡ 0) where
   abbrev new : ℕ
   new = getD rows (at .row) 0 + 2 ^ at .column
@@ -124,8 +133,8 @@ module _ (p : Plan) (O : Obeys p) (rows list : List ℕ) (count v : ℕ) (at : S
       by (yes q) (no m) = rw (q, row-is) (bit-other (getD rows (at .row) 0) (at .column) (s % p .width) clear-bit m)
       by (yes q) (yes m) = absurd (n (sym (div-add-mod' s (p .width)) ∙ rw (q, m) (sym (A .is))))
 
-  keeps : (s : ℕ) → Marked (p .width) rows s → Marked (p .width) rows⁺ s
-  keeps s m = by (ℕ-discrete s v)
+  grows : (s : ℕ) → Marked (p .width) rows s → Marked (p .width) rows⁺ s
+  grows s m = by (ℕ-discrete s v)
     where
       by : Dec (s ≡ v) → Marked (p .width) rows⁺ s
       by (yes e) = rw e adds
@@ -144,9 +153,6 @@ module _ (p : Plan) (O : Obeys p) (rows list : List ℕ) (count v : ℕ) (at : S
 
   last-is : getD list⁺ count 0 ≡ 64 * at .row + at .column
   last-is = getD-set-same list count (64 * at .row + at .column) 0 fits
-
-  last-cell : cellBy (p .width) (getD list⁺ count 0) ≡ v
-  last-cell = rw last-is (cell-by (p .width) (at .row) (at .column) low-column) ∙ sym (A .is)
 
   kept : (i : ℕ) → i < count → getD list⁺ i 0 ≡ getD list i 0
   kept i l = getD-set-other list count i (64 * at .row + at .column) 0 (λ e. omega arith)
@@ -172,6 +178,17 @@ module _ (p : Plan) (O : Obeys p) (rows list : List ℕ) (count v : ℕ) (at : S
       within : Within (p .width) (p .height) (64 * at .row + at .column)
       within = record { row-lt = omega (arith, in-row, low-column); column-lt = omega (arith, A .column-lt, low-column) }
 
+  added : {rows′ list′ : List ℕ} {count′ : ℕ} → Put rows list count at rows′ list′ count′ → Added p rows list count v rows′ list′ count′
+  added P =
+      rw (P .rows-are, P .list-is, P .one-more) (record {
+        filled = filled;
+        adds = adds;
+        grows = grows;
+        kept = kept;
+        last = rw last-is (cell-by (p .width) (at .row) (at .column) low-column) ∙ sym (A .is);
+        one-more = refl;
+      })
+
 -- Nothing is marked at first ..
 filled-none : {p : Plan} {rows list : List ℕ} → Clean p rows list → ((s : ℕ) → bitOf (p .width) rows s ≡ 0) × Filled p rows list 0
 unfolding bitOf
@@ -193,19 +210,16 @@ filled-none {p} {rows} {list} C = (
 -- .. then the hunter's cell.
 module _ {p : Plan} (O : Obeys p) {h : ℕ} (lh : h < cells p) {rows list : List ℕ} (C : Clean p rows list) {at : Spot} (A : At (p .width) h at) where
   pub first-asks : Markable rows list 0 at
-  first-asks = let N = filled-none C in to-mark p O rows list 0 h at (N .1) A lh (N .0 h)
+  first-asks = let N = filled-none C in to-mark O (N .1) A lh (N .0 h)
 
-  pub going-first : {rows′ list′ : List ℕ} {n : ℕ} → Put rows list 0 at rows′ list′ n → Going p h rows′ list′ n 0
+  pub going-first : {rows′ list′ : List ℕ} {count′ : ℕ} → Put rows list 0 at rows′ list′ count′ → Going p h rows′ list′ count′ 0
   going-first P =
       let N = filled-none C in
-      rw (P .rows-are, P .list-is, P .one-more) (record {
-        filled = filled p O rows list 0 h at (N .1) A lh (N .0 h);
-        le = omega arith;
-        own = adds p O rows list 0 h at (N .1) A lh (N .0 h);
-        reached = below-more (λ i. Reachable p h (cellBy (p .width) (getD (set list 0 (64 * at .row + at .column)) i 0))) 0 (λ i l. absurd (omega arith))
-            (rw (last-cell p O rows list 0 h at (N .1) A lh (N .0 h)) (reach-self h));
-        looks = λ j l. absurd (omega arith);
-      })
+      let B = added O (N .1) A lh (N .0 h) P in
+      record { filled = B .filled; le = omega arith; own = B .adds; reached = λ i l. first B i (omega (arith, B .one-more)); looks = λ j l. absurd (omega arith) }
+    where
+      first : {rows′ list′ : List ℕ} {count′ : ℕ} → Added p rows list 0 h rows′ list′ count′ → (i : ℕ) → i ≡ 0 → Reachable p h (cellBy (p .width) (getD list′ i 0))
+      first B i e = rw (e, B .last) (reach-self h)
 
 -- ---- one look
 
@@ -213,36 +227,27 @@ module _ {p : Plan} (O : Obeys p) {h : ℕ} (lh : h < cells p) {rows list : List
 pub nothing-new : {p : Plan} {x d : ℕ} {rows list : List ℕ} {count : ℕ} → Filled p rows list count → Looks p rows x d → Visited p x d rows list count rows list count
 nothing-new F l = record { filled = F; looks = l; le = omega arith; kept = λ i _. refl; grows = λ s m. m; from = λ i k j. absurd (omega arith) }
 
--- A new cell.
-module _ {p : Plan} (O : Obeys p) {rows list : List ℕ} {count : ℕ} (F : Filled p rows list count) {x d : ℕ} (I : Within (p .width) (p .height) x) (ld : d < 4) where
-  module _ (n : byte p (cellBy (p .width) x) d ≢ shut) {at : Spot} (A : At (p .width) (entered (p .width) (cellBy (p .width) x) d) at)
-      (m : Marked (p .width) rows (entered (p .width) (cellBy (p .width) x) d) → ⊥) where
-    stays : Stays (p .width) (p .height) (cellBy (p .width) x) d
-    stays = open-stays p O (cellBy (p .width) x) d (in-plan I) ld n
+-- The cell that it enters is new.
+module _ {p : Plan} (O : Obeys p) {rows list : List ℕ} {count : ℕ} (F : Filled p rows list count) {x d : ℕ} (I : Within (p .width) (p .height) x) (ld : d < 4)
+    (n : byte p (cellBy (p .width) x) d ≢ shut) {at : Spot} (A : At (p .width) (entered (p .width) (cellBy (p .width) x) d) at)
+    (m : Marked (p .width) rows (entered (p .width) (cellBy (p .width) x) d) → ⊥) where
+  inside : entered (p .width) (cellBy (p .width) x) d < cells p
+  inside = entered-in p O (cellBy (p .width) x) d (in-plan I) ld (open-stays p O (cellBy (p .width) x) d (in-plan I) ld n)
 
-    lv : entered (p .width) (cellBy (p .width) x) d < cells p
-    lv = entered-in p O (cellBy (p .width) x) d (in-plan I) ld stays
+  clear : bitOf (p .width) rows (entered (p .width) (cellBy (p .width) x) d) ≡ 0
+  clear = omega (arith, bitOf-le (p .width) rows (entered (p .width) (cellBy (p .width) x) d), m)
 
-    clear : bitOf (p .width) rows (entered (p .width) (cellBy (p .width) x) d) ≡ 0
-    clear = omega (arith, bitOf-le (p .width) rows (entered (p .width) (cellBy (p .width) x) d), m)
+  pub new-asks : Markable rows list count at
+  new-asks = to-mark O F A inside clear
 
-    pub new-asks : Markable rows list count at
-    new-asks = to-mark p O rows list count (entered (p .width) (cellBy (p .width) x) d) at F A lv clear
-
-    pub one-new : {rows′ list′ : List ℕ} {n : ℕ} → Put rows list count at rows′ list′ n → Visited p x d rows list count rows′ list′ n
-    one-new P =
-        let v = entered (p .width) (cellBy (p .width) x) d in
-        rw (P .rows-are, P .list-is, P .one-more) (record {
-          filled = filled p O rows list count v at F A lv clear;
-          looks = λ _. adds p O rows list count v at F A lv clear;
-          le = omega arith;
-          kept = kept p O rows list count v at F A lv clear;
-          grows = keeps p O rows list count v at F A lv clear;
-          from = λ i k l. last i (omega arith);
-        })
-      where
-        last : (i : ℕ) → i ≡ count → Reachable p (cellBy (p .width) x) (cellBy (p .width) (getD (set list count (64 * at .row + at .column)) i 0))
-        last i e = rw (e, last-cell p O rows list count (entered (p .width) (cellBy (p .width) x) d) at F A lv clear) (reach-one p O (cellBy (p .width) x) d (in-plan I) ld n)
+  pub one-new : {rows′ list′ : List ℕ} {count′ : ℕ} → Put rows list count at rows′ list′ count′ → Visited p x d rows list count rows′ list′ count′
+  one-new P =
+      let B = added O F A inside clear P in
+      record { filled = B .filled; looks = λ _. B .adds; le = omega (arith, B .one-more); kept = B .kept; grows = B .grows; from = λ i k l. last B i (omega (arith, B .one-more)) }
+    where
+      last : {rows′ list′ : List ℕ} {count′ : ℕ} → Added p rows list count (entered (p .width) (cellBy (p .width) x) d) rows′ list′ count′
+          → (i : ℕ) → i ≡ count → Reachable p (cellBy (p .width) x) (cellBy (p .width) (getD list′ i 0))
+      last B i e = rw (e, B .last) (reach-one p O (cellBy (p .width) x) d (in-plan I) ld n)
 
 -- ---- from look to look
 

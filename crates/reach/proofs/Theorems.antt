@@ -18,7 +18,7 @@ use Rattle.reach.specs.Outs.{LeadsOut, Listed}
 use Rattle.reach.specs.Promise.{ReachTold, reachTold, Room, ReachRules, Kept, Written, Reports}
 use Rattle.reach.specs.declared.Reaching.{Reaching}
 use Rattle.reach.specs.declared.Reaching.the-variants.{Reaches, Refused}
-use Rattle.reach.proofs.BitLaws.{same-bits, row-bit, bitOf-le, ones-cells, Those, those}
+use Rattle.reach.proofs.BitLaws.{same-bits, row-bit, bitOf-le, ones-cells, those}
 use Rattle.reach.proofs.FillLaws.{reach-self}
 use Rattle.reach.proofs.OutLaws.{fewest, at-most}
 use Rattle.reach.proofs.ReportLaws.{plan-granted}
@@ -31,7 +31,7 @@ module _ {p : Plan} {h : ℕ} {rows moves : List ℕ} {told : ReachTold} {rows�
   reached-exactly s l = (W .part .so s l, W .part .whenever s l)
 
   -- The sum of the ones counts is how many cells have bit 1, and how many can be reached: as many as stand in a list of them, each once.
-  pub reached-count : (told .cells ≡ onesOf rows′ (p .height)) × (told .cells ≡ sumTo (bitOf (p .width) rows′) (cells p)) × Number p h (told .cells)
+  pub reached-count : (told .cells ≡ onesOf rows′ (p .height)) × (told .cells ≡ sumTo (bitOf (p .width) rows′) (cells p)) × Number (Reachable p h) (cells p) (told .cells)
   reached-count = (
     W .counted,
     summed,
@@ -47,7 +47,7 @@ module _ {p : Plan} {h : ℕ} {rows moves : List ℕ} {told : ReachTold} {rows�
       summed : told .cells ≡ sumTo (bitOf (p .width) rows′) (cells p)
       summed = W .counted ∙ ones-cells rows′ (p .width) (p .height) (W .part .narrow)
 
-      T : Those (bitOf (p .width) rows′) (cells p)
+      T : Number (Marked (p .width) rows′) (cells p) (sumTo (bitOf (p .width) rows′) (cells p))
       T = those (bitOf (p .width) rows′) (bitOf-le (p .width) rows′) (cells p)
 
   -- The target is not among the reached cells exactly if no chain leads there: the search's "none".

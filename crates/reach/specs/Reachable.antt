@@ -20,10 +20,10 @@ pub record Part (p : Plan) (h : ℕ) (rows : List ℕ) : Type 0 where
   pub whenever : (s : ℕ) → s < cells p → Reachable p h s → Marked (p .width) rows s
   pub narrow : (r : ℕ) → r < p .height → getD rows r 0 < 2 ^ p .width
 
--- How many cells cell h can reach: as many as stand in a list of them, each once.
-pub record Number (p : Plan) (h n : ℕ) : Type 0 where
+-- How many of the first `cells` cells have a property: as many as stand in a list of them, each once.
+pub record Number (Has : ℕ → Type 0) (cells n : ℕ) : Type 0 where
   pub list : List ℕ
   pub once : Once list
-  pub so : (s : ℕ) → List·Memᴰ s list → (s < cells p) × Reachable p h s
-  pub whenever : (s : ℕ) → s < cells p → Reachable p h s → List·Memᴰ s list
+  pub so : (s : ℕ) → List·Memᴰ s list → (s < cells) × Has s
+  pub whenever : (s : ℕ) → s < cells → Has s → List·Memᴰ s list
   pub long : length list ≡ n
