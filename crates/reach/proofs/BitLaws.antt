@@ -152,7 +152,7 @@ those f le (suc n) = at (those f le n) (ℕ-discrete (f n) 1)
     at : Number (λ s. f s ≡ 1) n (sumTo f n) → Dec (f n ≡ 1) → Number (λ s. f s ≡ 1) (suc n) (sumTo f n + f n)
     at T (yes e) = record {
       list = n ∷ T .list;
-      once = one-more (λ i. omega (arith, T .so n i .0)) (T .once);
+      once = one-more (λ (i : List·Memᴰ n (T .list)). omega (arith, T .so n i .0)) (T .once);
       so = λ s i. so′ s (List·Memᴰ·cases-cons i);
       whenever = λ s l q. has s l q (ℕ-discrete s n);
       long = omega (arith, T .long);

@@ -34,13 +34,13 @@ pub reach-self : {p : Plan} (h : ℕ) → Reachable p h h
 reach-self h = record { over = h ∷ []; cost = 0; chain = stay }
 
 -- There and on.
-reach-join : {p : Plan} {a b e d : ℕ} {l : List ℕ} → Chain (graphOf p) a l b d → Reachable p b e → Reachable p a e
+pub reach-join : {p : Plan} {a b e d : ℕ} {l : List ℕ} → Chain (graphOf p) a l b d → Reachable p b e → Reachable p a e
 reach-join stay r = r
 reach-join (go {a} {c = c} o q) r = let t = reach-join q r in record { over = a ∷ t .over; cost = c + t .cost; chain = go o (t .chain) }
 
 module _ (p : Plan) (O : Obeys p) where
   -- An open move reaches the cell that it enters ..
-  reach-one : (u d : ℕ) → u < cells p → d < 4 → byte p u d ≢ shut → Reachable p u (entered (p .width) u d)
+  pub reach-one : (u d : ℕ) → u < cells p → d < 4 → byte p u d ≢ shut → Reachable p u (entered (p .width) u d)
   reach-one u d lu ld n =
       let v = entered (p .width) u d in
       let k = opposite d + 1 in
@@ -63,7 +63,7 @@ module _ (p : Plan) (O : Obeys p) where
       at d ld i (no n) = (n, ap (λ x. x .cell) (List·Memᴰ·eq-of-singleton (subst (List·Memᴰ (move k b c)) (sym (out-open p O a d la ld n)) i)))
 
   -- Marked cells that no open move leads out of hold all that one of them can reach.
-  closed-holds : (rows : List ℕ) → ((s d : ℕ) → s < cells p → d < 4 → Marked (p .width) rows s → byte p s d ≢ shut → Marked (p .width) rows (entered (p .width) s d))
+  pub closed-holds : (rows : List ℕ) → ((s d : ℕ) → s < cells p → d < 4 → Marked (p .width) rows s → byte p s d ≢ shut → Marked (p .width) rows (entered (p .width) s d))
       → {a e d : ℕ} {l : List ℕ} → Chain (graphOf p) a l e d → Marked (p .width) rows a → Marked (p .width) rows e
   closed-holds rows h stay m = m
   closed-holds rows h (go {a} {b} {k} {c} o q) m =

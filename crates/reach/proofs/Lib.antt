@@ -4,3 +4,4 @@ pub mod FillLaws
 pub mod OutLaws
 pub mod ReportLaws
 pub mod Theorems
+pub mod CaseLaws

@@ -13,7 +13,7 @@ use Rattle.method.specs.Walk.{NoChain}
 use Rattle.plan.specs.Costs.{Plan, planOf, cells, Obeys}
 use Rattle.plan.specs.Grid.{graphOf}
 use Rattle.reach.specs.Bits.{bitOf, Marked, onesOf, sumTo}
-use Rattle.reach.specs.Reachable.{Reachable, Number}
+use Rattle.reach.specs.Reachable.{Reachable, Part, Number}
 use Rattle.reach.specs.Outs.{LeadsOut, Listed}
 use Rattle.reach.specs.Promise.{ReachTold, reachTold, Room, ReachRules, Kept, Written, Reports}
 use Rattle.reach.specs.declared.Reaching.{Reaching}
@@ -132,19 +132,19 @@ kept-same {n} {before} {a} {b} K L h = ext-getD 0 a b (K .long ∙ sym (L .long)
     at i (yes l) = h i l
     at i (no m) = K .rest i (omega arith) ∙ sym (L .rest i (omega arith))
 
+-- A part has one row of bits for each of the plan's rows.
+pub one-part : {p : Plan} {h : ℕ} {a b : List ℕ} → Part p h a → Part p h b → (i : ℕ) → i < p .height → getD a i 0 ≡ getD b i 0
+one-part {p} {h} {a} {b} A B i l =
+    same-bits (p .width) (getD a i 0) (getD b i 0) (A .narrow i l) (B .narrow i l)
+    (λ c k. sym (row-bit (p .width) a i k) ∙ bits (i * p .width + c) (digits-lt {q = i} {m = p .height} {r = c} {c = p .width} l k) ∙ row-bit (p .width) b i k)
+  where
+    bits : (s : ℕ) → s < cells p → bitOf (p .width) a s ≡ bitOf (p .width) b s
+    bits s l = one-bit (bitOf-le (p .width) a s) (bitOf-le (p .width) b s) (λ m. B .whenever s l (A .so s l m)) (λ m. A .whenever s l (B .so s l m))
+
 module _ {p : Plan} {h : ℕ} {rows moves : List ℕ} {t₁ t₂ : ReachTold} {rows₁ moves₁ rows₂ moves₂ : List ℕ}
     (A : Written p h rows moves t₁ rows₁ moves₁) (B : Written p h rows moves t₂ rows₂ moves₂) where
-  bits-same : (s : ℕ) → s < cells p → bitOf (p .width) rows₁ s ≡ bitOf (p .width) rows₂ s
-  bits-same s l =
-      one-bit (bitOf-le (p .width) rows₁ s) (bitOf-le (p .width) rows₂ s)
-      (λ m. B .part .whenever s l (A .part .so s l m))
-      (λ m. A .part .whenever s l (B .part .so s l m))
-
   rows-same : rows₁ ≡ rows₂
-  rows-same =
-      kept-same (A .rows-kept) (B .rows-kept) (λ i l.
-      same-bits (p .width) (getD rows₁ i 0) (getD rows₂ i 0) (A .part .narrow i l) (B .part .narrow i l)
-      (λ c k. sym (row-bit (p .width) rows₁ i k) ∙ bits-same (i * p .width + c) (digits-lt {q = i} {m = p .height} {r = c} {c = p .width} l k) ∙ row-bit (p .width) rows₂ i k))
+  rows-same = kept-same (A .rows-kept) (B .rows-kept) (one-part (A .part) (B .part))
 
   cells-same : t₁ .cells ≡ t₂ .cells
   cells-same = A .counted ∙ ap (λ x. onesOf x (p .height)) rows-same ∙ sym (B .counted)
