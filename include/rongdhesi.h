@@ -47,12 +47,13 @@ extern "C" {
 /* The refusal numbers. Where several apply, the one named first is given; their order is 1 2 6 3 4 5 8 7 9.
  * Refusals 1 to 8 change no table and return the record as it came (open: a record of zeros). */
 #define RONGDHESI_REFUSED_SIZE 1    /* width or height not 1 to 64 */
-#define RONGDHESI_REFUSED_LENGTH 2  /* a table is not of its length */
+#define RONGDHESI_REFUSED_LENGTH 2  /* a table is not of its length, or a list of cells has none or more than N */
 #define RONGDHESI_REFUSED_CELL 3    /* a given cell is N or more */
-#define RONGDHESI_REFUSED_MOVE 4    /* direction above 3, or the move leaves the plan (open: such a byte is not 255) */
-#define RONGDHESI_REFUSED_COST 5    /* a cost is not 1 to 250 and not 255 */
+#define RONGDHESI_REFUSED_MOVE 4    /* direction above 3, or the move leaves the plan (in a plan that is given: such a byte
+                                       is not 255), or two listed cells that follow each other are no neighbours */
+#define RONGDHESI_REFUSED_COST 5    /* a cost is not 1 to 250 and not 255, or a reason is asked of a move that is shut */
 #define RONGDHESI_REFUSED_UNSOUND 6 /* the tables are not sound */
-#define RONGDHESI_REFUSED_ROOM 7    /* the way list is shorter than N, or the room for a drill file than the file */
+#define RONGDHESI_REFUSED_ROOM 7    /* the way list is shorter than N, or another room than what is to be written */
 #define RONGDHESI_REFUSED_FORM 8    /* an action is badly formed, or there are more than a drill file has room for */
 #define RONGDHESI_REFUSED_STEPS 9   /* 3N steps taken and the search not ended; from sound tables this never happens */
 
@@ -160,6 +161,60 @@ rongdhesi_written rongdhesi_write_drill(
     const uint8_t *plan, size_t plan_length,
     const uint8_t *actions, size_t actions_length,
     uint8_t *file, size_t file_length);
+
+/* The three functions that follow give the reasons for an answer. They need no session and read the plan alone, so that
+ * each reason is true of the plan. plan: as rongdhesi_open has it. A refusal writes nothing. */
+
+/* What rongdhesi_explain_reached returns. What an answer lacks is 0. */
+typedef struct rongdhesi_reached {
+    uint64_t refusal; /* 0, or the number */
+    uint64_t cells;   /* how many cells the hunter can reach, its own included */
+    uint64_t moves;   /* how many shut moves lead out of them, which is how many were written */
+} rongdhesi_reached;
+
+/* Which cells the hunter can reach: those that a chain of open moves leads to, and its own.
+ * rows: one number for each row, at least as many as the height; the bit of column 0 is the lowest, a reached cell's is 1,
+ * and bits from the width on are 0. moves: every shut move inside the plan from a reached cell to one that is not, as
+ * 4 * cell + direction, in rising order. What stands behind the rows and behind the moves keeps its contents.
+ * Refused by 1, 2 (the plan's length), 3, 4, 5 or 7 (rows or moves too few), in this order. 2 * N moves are room enough
+ * for every plan. Takes about 45 KiB of stack. */
+rongdhesi_reached rongdhesi_explain_reached(
+    uint64_t width, uint64_t height, uint64_t hunter,
+    const uint8_t *plan, size_t plan_length,
+    uint64_t *rows, size_t rows_length,
+    uint16_t *moves, size_t moves_length);
+
+/* What rongdhesi_explain_along returns. What an answer lacks is 0. */
+typedef struct rongdhesi_running {
+    uint64_t refusal; /* 0, or the number */
+    uint64_t costs;   /* how many costs were written: as many as there are cells */
+} rongdhesi_running;
+
+/* The running cost at each of 1 to N listed cells: 0 at the first, and at each other one the cost of the move from the cell
+ * before it more. The list may begin anywhere, and a cell may come again. What stands behind the costs keeps its contents.
+ * Refused by 1, 2 (the plan's length, or the list's), 3, 4 (of the plan, or a listed pair that are no neighbours; a cell is
+ * none of its own), 5 (of the plan, or a listed move that is shut) or 7 (fewer costs than cells), in this order. */
+rongdhesi_running rongdhesi_explain_along(
+    uint64_t width, uint64_t height,
+    const uint8_t *plan, size_t plan_length,
+    const uint16_t *cells, size_t cells_length,
+    uint32_t *costs, size_t costs_length);
+
+/* What rongdhesi_explain_through returns. What an answer lacks is 0. */
+typedef struct rongdhesi_through {
+    uint64_t refusal; /* 0, or the number */
+    uint64_t walk;    /* 1 if there is such a walk, else 0 */
+    uint64_t cost;    /* of the cheapest of them */
+} rongdhesi_through;
+
+/* The least cost of any walk from hunter to target through the open move from a cell in a direction; a walk may come to a
+ * cell twice. Hunter and target may be one cell, and each may be an end of the move.
+ * Refused by 1, 2 (the plan's length), 3 (hunter, target or cell), 4 (of the plan, or of the move) or 5 (of the plan, or the
+ * move is shut), in this order. Takes about 100 KiB of stack. */
+rongdhesi_through rongdhesi_explain_through(
+    uint64_t width, uint64_t height, uint64_t hunter, uint64_t target,
+    const uint8_t *plan, size_t plan_length,
+    uint64_t cell, uint64_t direction);
 
 #ifdef __cplusplus
 }

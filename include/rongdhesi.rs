@@ -56,6 +56,32 @@ pub struct Written {
     pub bytes: u64,
 }
 
+/// What `explain_reached` returns, in the layout of C.
+#[repr(C)]
+#[derive(Clone, Copy, Debug, PartialEq, Eq)]
+pub struct Reached {
+    pub refusal: u64,
+    pub cells: u64,
+    pub moves: u64,
+}
+
+/// What `explain_along` returns, in the layout of C.
+#[repr(C)]
+#[derive(Clone, Copy, Debug, PartialEq, Eq)]
+pub struct Running {
+    pub refusal: u64,
+    pub costs: u64,
+}
+
+/// What `explain_through` returns, in the layout of C.
+#[repr(C)]
+#[derive(Clone, Copy, Debug, PartialEq, Eq)]
+pub struct Through {
+    pub refusal: u64,
+    pub walk: u64,
+    pub cost: u64,
+}
+
 /// The tables but the plan and the way list, lent to a call.
 pub struct Lent<'a> {
     pub g: &'a mut [u32],
@@ -88,7 +114,7 @@ macro_rules! lent {
 pub(crate) use lent;
 
 mod c {
-    use super::{Lengths, Reply, Session, Written};
+    use super::{Lengths, Reached, Reply, Running, Session, Through, Written};
 
     extern "C" {
         pub fn rongdhesi_lengths(width: u64, height: u64) -> Lengths;
@@ -135,6 +161,23 @@ mod c {
             actions: *const u8, actions_length: usize,
             file: *mut u8, file_length: usize,
         ) -> Written;
+        pub fn rongdhesi_explain_reached(
+            width: u64, height: u64, hunter: u64,
+            plan: *const u8, plan_length: usize,
+            rows: *mut u64, rows_length: usize,
+            moves: *mut u16, moves_length: usize,
+        ) -> Reached;
+        pub fn rongdhesi_explain_along(
+            width: u64, height: u64,
+            plan: *const u8, plan_length: usize,
+            cells: *const u16, cells_length: usize,
+            costs: *mut u32, costs_length: usize,
+        ) -> Running;
+        pub fn rongdhesi_explain_through(
+            width: u64, height: u64, hunter: u64, target: u64,
+            plan: *const u8, plan_length: usize,
+            cell: u64, direction: u64,
+        ) -> Through;
     }
 }
 
@@ -207,6 +250,38 @@ pub fn write_drill(width: u64, height: u64, hunter: u64, target: u64, plan: &[u8
             plan.as_ptr(), plan.len(),
             actions.as_ptr(), actions.len(),
             file.as_mut_ptr(), file.len(),
+        )
+    }
+}
+
+pub fn explain_reached(width: u64, height: u64, hunter: u64, plan: &[u8], rows: &mut [u64], moves: &mut [u16]) -> Reached {
+    unsafe {
+        c::rongdhesi_explain_reached(
+            width, height, hunter,
+            plan.as_ptr(), plan.len(),
+            rows.as_mut_ptr(), rows.len(),
+            moves.as_mut_ptr(), moves.len(),
+        )
+    }
+}
+
+pub fn explain_along(width: u64, height: u64, plan: &[u8], cells: &[u16], costs: &mut [u32]) -> Running {
+    unsafe {
+        c::rongdhesi_explain_along(
+            width, height,
+            plan.as_ptr(), plan.len(),
+            cells.as_ptr(), cells.len(),
+            costs.as_mut_ptr(), costs.len(),
+        )
+    }
+}
+
+pub fn explain_through(width: u64, height: u64, hunter: u64, target: u64, plan: &[u8], cell: u64, direction: u64) -> Through {
+    unsafe {
+        c::rongdhesi_explain_through(
+            width, height, hunter, target,
+            plan.as_ptr(), plan.len(),
+            cell, direction,
         )
     }
 }
