@@ -4,6 +4,7 @@
 use compare::chance::Chance;
 use compare::dijkstra::distances;
 use compare::drill::{self, Drill};
+use compare::explain::{Floor, Reached};
 use compare::made::{draw_plan, sound_tables, tied_pair};
 use compare::model::{
     change, estimate, is_sound, neighbour, open, opposite, place_hunter, place_target, search,
@@ -94,6 +95,13 @@ fn main() {
     slips(&mut count);
     soundness(&mut count);
     wild_contents(&mut count);
+    cells_reached(&mut count);
+    reached_refusals(&mut count);
+    costs_along(&mut count);
+    along_refusals(&mut count);
+    costs_through(&mut count);
+    through_refusals(&mut count);
+    reasons_by_dijkstra(&mut count);
     fixed_generator(&mut count);
     println!("ok {}", count.0);
 }
@@ -1019,6 +1027,241 @@ fn wild_contents(count: &mut Count) {
         } else {
             count.same("search", search(&session, &mut other, &mut way), (Answer::Refused(6), session));
             count.yes("search changed nothing", other == tables);
+        }
+    }
+}
+
+/// Room enough for all that is told.
+const ROOM: usize = 20_000;
+
+/// The cells that the hunter can reach and the shut moves that lead out of them, and how much room they take.
+fn cells_reached(count: &mut Count) {
+    let mut reaches = |what: &str, floor: Floor, hunter: u64, cells: u64, rows: Vec<u64>, moves: Vec<u16>| {
+        let (height, out) = (rows.len(), moves.len());
+        let wanted = Ok(Reached { cells, rows, moves });
+        count.same(what, floor.reached(hunter, ROOM, ROOM), wanted.clone());
+        count.same("as many rows as the plan, as many moves as lead out", floor.reached(hunter, height, out), wanted);
+        count.same("a row too few", floor.reached(hunter, height - 1, out), Err(7));
+        if out > 0 {
+            count.same("a move too few", floor.reached(hunter, height, out - 1), Err(7));
+        }
+    };
+    reaches("1 by 1", Floor { width: 1, height: 1, plan: &[255; 4] }, 0, 1, vec![1], vec![]);
+    let two = Floor { width: 2, height: 1, plan: &[255; 8] };
+    reaches("2 by 1 shut, from 0", two, 0, 1, vec![1], vec![1]);
+    reaches("2 by 1 shut, from 1", two, 1, 1, vec![2], vec![7]);
+    // One-way doors between cells 1 and 2: the way back is not asked.
+    let row = row_of_three();
+    let row = |bytes: [u8; 2]| [&row[..5], &[bytes[0]], &row[6..11], &[bytes[1]]].concat();
+    reaches("both ways open", Floor { width: 3, height: 1, plan: &row([1, 1]) }, 0, 3, vec![7], vec![]);
+    reaches("open out of the part", Floor { width: 3, height: 1, plan: &row([1, 255]) }, 0, 3, vec![7], vec![]);
+    reaches("open into the part", Floor { width: 3, height: 1, plan: &row([255, 1]) }, 0, 2, vec![3], vec![5]);
+    reaches("the same from the other side", Floor { width: 3, height: 1, plan: &row([255, 1]) }, 2, 3, vec![7], vec![]);
+    // A shut move between two reached cells leads nowhere, and one out of a cell that is not reached is not told.
+    let mut plan = even_plan(2, 2, 1);
+    plan[1] = 255;
+    reaches("shut inside the part", Floor { width: 2, height: 2, plan: &plan }, 0, 4, vec![3, 3], vec![]);
+    (plan[2], plan[6], plan[7], plan[12]) = (255, 255, 255, 255);
+    reaches("shut outside the part", Floor { width: 2, height: 2, plan: &plan }, 0, 1, vec![1, 0], vec![1, 2]);
+    // The largest plan. Column 0 is the lowest bit, and cell 65 is column 1 of row 1.
+    let full = even_plan(64, 64, 250);
+    reaches("all open", Floor { width: 64, height: 64, plan: &full }, 0, 4_096, vec![u64::MAX; 64], vec![]);
+    let mut alone = vec![0; 64];
+    alone[1] = 2;
+    let walls = vec![255; 4 * 4_096];
+    reaches("all shut", Floor { width: 64, height: 64, plan: &walls }, 65, 1, alone, vec![260, 261, 262, 263]);
+}
+
+/// Reached: 1 2 3 4 5 7. Each plan has every later fault too, and then these are taken away one by one.
+fn reached_refusals(count: &mut Count) {
+    let mut refuses = |what: &str, width: u64, height: u64, hunter: u64, plan: &[u8], room: usize, number: u8| {
+        count.same(what, Floor { width, height, plan }.reached(hunter, room, room), Err(number));
+    };
+    let sound = even_plan(3, 2, 3);
+    // A 5 in the first inner move, and a 4 in the last move.
+    let mut faulty = sound.clone();
+    (faulty[1], faulty[22]) = (0, 1);
+    for (width, height) in [(0, 2), (65, 2), (3, 0), (3, 65), (u64::MAX, 2), (1 << 32, 1 << 32)] {
+        refuses("1", width, height, u64::MAX, &faulty[1..], 0, 1);
+        refuses("1 alone", width, height, 0, &sound, ROOM, 1);
+    }
+    refuses("2, too short", 3, 2, 6, &faulty[1..], 0, 2);
+    refuses("2, too long", 3, 2, 6, &[&faulty[..], &[255]].concat(), 0, 2);
+    refuses("2 alone", 3, 2, 0, &sound[1..], ROOM, 2);
+    refuses("3", 3, 2, 6, &faulty, 0, 3);
+    refuses("3 alone", 3, 2, 6, &sound, ROOM, 3);
+    refuses("3 of a great hunter", 3, 2, u64::MAX, &faulty, 0, 3);
+    refuses("4 before an earlier 5", 3, 2, 5, &faulty, 0, 4);
+    faulty[1] = 3;
+    refuses("4 alone", 3, 2, 5, &faulty, ROOM, 4);
+    for byte in [0, 251, 252, 253, 254] {
+        let mut off = sound.clone();
+        off[1] = byte;
+        refuses("5", 3, 2, 5, &off, 0, 5);
+        refuses("5 alone", 3, 2, 5, &off, ROOM, 5);
+    }
+    refuses("7", 3, 2, 5, &sound, 1, 7);
+}
+
+/// The running cost along lists of cells.
+fn costs_along(count: &mut Count) {
+    let mut told = |what: &str, width: u64, height: u64, plan: &[u8], list: &[u16], costs: &[u32]| {
+        let floor = Floor { width, height, plan };
+        count.same(what, floor.along(list, list.len()), Ok(costs.to_vec()));
+        count.same("in more room", floor.along(list, ROOM), Ok(costs.to_vec()));
+        count.same("a cost too few", floor.along(list, list.len() - 1), Err(7));
+    };
+    told("1 by 1", 1, 1, &[255; 4], &[0], &[0]);
+    let row = [255, 5, 255, 255, 255, 7, 255, 2, 255, 255, 255, 255];
+    told("one cell", 3, 1, &row, &[2], &[0]);
+    told("N cells", 3, 1, &row, &[0, 1, 2], &[0, 5, 12]);
+    told("a cell that comes again", 3, 1, &row, &[1, 0, 1], &[0, 2, 7]);
+    let square = even_plan(2, 2, 250);
+    told("all four directions", 2, 2, &square, &[0, 1, 3, 2], &[0, 250, 500, 750]);
+    told("and the other way round", 2, 2, &square, &[0, 2, 3, 1], &[0, 250, 500, 750]);
+    // The longest list of the largest plan, through every cell, to and fro row by row.
+    let full = even_plan(64, 64, 250);
+    let snake: Vec<u16> = (0..64).flat_map(|row| (0..64).map(move |at| 64 * row + if row % 2 == 0 { at } else { 63 - at })).collect();
+    let costs: Vec<u32> = (0..4_096).map(|moves| 250 * moves).collect();
+    told("every cell of 64 by 64", 64, 64, &full, &snake, &costs);
+}
+
+/// Along: 1 2 3 4 5 7, with every 4 of plan and list before any 5.
+fn along_refusals(count: &mut Count) {
+    let mut refuses = |what: &str, width: u64, plan: &[u8], list: &[u16], room: usize, number: u8| {
+        count.same(what, Floor { width, height: 2, plan }.along(list, room), Err(number));
+    };
+    let sound = even_plan(3, 2, 3);
+    let with = |places: &[(usize, u8)]| {
+        let mut plan = sound.clone();
+        for &(at, byte) in places {
+            plan[at] = byte;
+        }
+        plan
+    };
+    // Cell 0's move north leaves the plan; cell 5's move west stays in it, and so does cell 0's move east.
+    let (edge, no_cost, shut) = ((0, 1), (23, 251), (1, 255));
+    refuses("1", 0, &with(&[edge, no_cost])[1..], &[], 0, 1);
+    refuses("1 alone", 65, &sound, &[0], 1, 1);
+    refuses("2 of the plan", 3, &with(&[edge, no_cost])[1..], &[6, 6], 0, 2);
+    refuses("2 of the plan alone", 3, &sound[1..], &[0], 1, 2);
+    refuses("2, no cells", 3, &with(&[edge, no_cost]), &[], 0, 2);
+    refuses("2, no cells, alone", 3, &sound, &[], 1, 2);
+    refuses("2, N + 1 cells", 3, &with(&[edge, no_cost]), &[6; 7], 0, 2);
+    refuses("2, N + 1 cells, alone", 3, &sound, &[0, 1, 0, 1, 0, 1, 0], 7, 2);
+    for list in [[6, 7], [0, 6], [65_535, 0]] {
+        refuses("3", 3, &with(&[edge, no_cost]), &list, 0, 3);
+        refuses("3 alone", 3, &sound, &list, 2, 3);
+    }
+    // A cell beside itself, two cells apart, the last of a row and the first of the next, corner to corner.
+    for list in [[0, 0], [0, 2], [2, 3], [3, 2], [0, 4]] {
+        refuses("4 of the list", 3, &with(&[no_cost]), &list, 0, 4);
+        refuses("4 of the list, alone", 3, &sound, &list, 2, 4);
+        refuses("4 of the list before the plan's 5", 3, &with(&[(1, 251)]), &list, 2, 4);
+    }
+    refuses("4 at the end, behind a shut move", 3, &with(&[shut]), &[0, 1, 1], 3, 4);
+    refuses("4 of the plan", 3, &with(&[edge, no_cost, shut]), &[0, 1], 0, 4);
+    refuses("4 of the plan, alone", 3, &with(&[edge]), &[0, 1], 2, 4);
+    for byte in [0, 251, 252, 253, 254] {
+        refuses("5 of the plan", 3, &with(&[(23, byte)]), &[0, 1], 0, 5);
+        refuses("5 of the plan, alone", 3, &with(&[(23, byte)]), &[0, 1], 2, 5);
+    }
+    refuses("5, a shut move", 3, &with(&[shut]), &[0, 1], 0, 5);
+    refuses("5, a shut move, alone", 3, &with(&[shut]), &[4, 3, 0, 1], 4, 5);
+    refuses("7, though the shut door is open the other way", 3, &with(&[shut]), &[1, 0], 1, 7);
+    let back = Floor { width: 3, height: 2, plan: &with(&[shut]) }.along(&[1, 0], 2);
+    count.same("shut one way only, walked the other way", back, Ok(vec![0, 3]));
+}
+
+/// The least cost through one named move.
+fn costs_through(count: &mut Count) {
+    let mut told = |what: &str, width: u64, height: u64, plan: &[u8], given: [u64; 4], cost: Option<u64>| {
+        let [hunter, target, cell, direction] = given;
+        count.same(what, Floor { width, height, plan }.through(hunter, target, cell, direction), Ok(cost));
+    };
+    let row = [255, 5, 255, 255, 255, 7, 255, 2, 255, 255, 255, 11];
+    told("the move alone", 3, 1, &row, [0, 1, 0, 1], Some(5));
+    told("on the way", 3, 1, &row, [0, 2, 1, 1], Some(12));
+    told("there and back", 3, 1, &row, [0, 0, 0, 1], Some(7));
+    told("hunter and target in the cell entered", 3, 1, &row, [1, 1, 0, 1], Some(7));
+    told("cells twice: past the target and back", 3, 1, &row, [0, 1, 1, 1], Some(23));
+    told("back for the named move", 3, 1, &row, [1, 2, 0, 1], Some(14));
+    told("against the way, and another move twice", 3, 1, &row, [0, 2, 1, 3], Some(19));
+    // Cell 2 has no way back.
+    let one_way = [255, 5, 255, 255, 255, 7, 255, 2, 255, 255, 255, 255];
+    told("the target is reachable, but not from the cell entered", 3, 1, &one_way, [0, 1, 1, 1], None);
+    told("the cell left is not reachable", 3, 1, &one_way, [2, 2, 0, 1], None);
+    // A dear move is taken if it is named, and what is before and behind it is the cheapest.
+    let mut square = even_plan(2, 2, 1);
+    (square[1], square[6]) = (9, 4);
+    told("dear, and then back and round by 0 and 2", 2, 2, &square, [0, 3, 0, 1], Some(12));
+    told("round by 2 and 3", 2, 2, &square, [0, 1, 3, 0], Some(3));
+    told("the greatest cost", 64, 64, &even_plan(64, 64, 250), [0, 4_095, 63, 2], Some(126 * 250));
+}
+
+/// Through: 1 2 3 4 5, with every 4 of plan and move before any 5.
+fn through_refusals(count: &mut Count) {
+    let sound = even_plan(3, 2, 3);
+    let mut faulty = sound.clone();
+    (faulty[1], faulty[22]) = (0, 1);
+    let mut refuses = |what: &str, width: u64, plan: &[u8], given: [u64; 4], number: u8| {
+        let [hunter, target, cell, direction] = given;
+        count.same(what, Floor { width, height: 2, plan }.through(hunter, target, cell, direction), Err(number));
+    };
+    refuses("1", 65, &faulty[1..], [6, 6, 6, 4], 1);
+    refuses("1 alone", 0, &sound, [0, 0, 0, 1], 1);
+    refuses("2", 3, &faulty[1..], [6, 6, 6, 4], 2);
+    refuses("2 alone", 3, &sound[1..], [0, 0, 0, 1], 2);
+    for outside in [6, u64::MAX] {
+        for given in [[outside, 0, 0, 4], [0, outside, 0, 4], [0, 0, outside, 4]] {
+            refuses("3 before direction 4", 3, &faulty, given, 3);
+            refuses("3 alone", 3, &sound, given.map(|number| if number == 4 { 1 } else { number }), 3);
+        }
+    }
+    refuses("4 of the plan before an earlier 5", 3, &faulty, [0, 0, 0, 1], 4);
+    faulty[22] = 255;
+    for direction in [4, 255, 256, 257, u64::MAX] {
+        refuses("4 of the direction before a 5", 3, &faulty, [0, 0, 0, direction], 4);
+        refuses("4 of the direction alone", 3, &sound, [0, 0, 0, direction], 4);
+    }
+    for (cell, direction) in [(0, 0), (2, 1), (5, 2), (3, 3)] {
+        refuses("4, the move leaves the plan, before a 5", 3, &faulty, [0, 0, cell, direction], 4);
+        refuses("4, the move leaves the plan", 3, &sound, [0, 0, cell, direction], 4);
+    }
+    refuses("5 of the plan", 3, &faulty, [0, 0, 4, 1], 5);
+    for byte in [0, 251, 254, 255] {
+        faulty[1] = byte;
+        refuses("5 of the named move", 3, &faulty, [0, 0, 0, 1], 5);
+    }
+}
+
+/// On drawn plans all of this is what Dijkstra's costs give.
+fn reasons_by_dijkstra(count: &mut Count) {
+    for number in 0..300 {
+        let mut chance = Chance::start(78, number);
+        let (width, height) = (1 + chance.draw(9), 1 + chance.draw(9));
+        let cells = width * height;
+        let shut = [0, 20, 45, 70][chance.draw(4) as usize];
+        let plan = draw_plan(&mut chance, width, height, shut, 9);
+        let floor = Floor { width, height, plan: &plan };
+        let (hunter, target) = (chance.draw(cells), chance.draw(cells));
+        let far = distances(width, height, &plan, hunter as usize);
+        let reached = floor.reached(hunter, ROOM, ROOM).expect("a sound plan and room enough");
+        let bit = |cell: u64| reached.rows[(cell / width) as usize] >> (cell % width) & 1 == 1;
+        count.yes("the bits", (0..cells).all(|cell| bit(cell) == far[cell as usize].is_some()));
+        count.same("the number", reached.cells, far.iter().flatten().count() as u64);
+        let told: Vec<bool> = (0..4 * cells as u16).map(|at| reached.moves.contains(&at)).collect();
+        let leads_out = |at: usize| {
+            let entered = neighbour(width, height, at / 4, at % 4);
+            plan[at] == 255 && far[at / 4].is_some() && entered.is_some_and(|entered| far[entered].is_none())
+        };
+        count.yes("the moves", told.iter().enumerate().all(|(at, &told)| told == leads_out(at)));
+        count.yes("in rising order", reached.moves.windows(2).all(|pair| pair[0] < pair[1]));
+        for (at, &byte) in plan.iter().enumerate().filter(|(_, &byte)| byte != 255) {
+            let entered = neighbour(width, height, at / 4, at % 4).expect("an open move stays in the plan");
+            let rest = distances(width, height, &plan, entered)[target as usize];
+            let cost = far[at / 4].and_then(|there| Some(there + byte as u64 + rest?));
+            count.same("through", floor.through(hunter, target, at as u64 / 4, at as u64 % 4), Ok(cost));
         }
     }
 }
