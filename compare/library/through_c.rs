@@ -1,7 +1,7 @@
 //! Plays the same calls through the C interface of the library and through the model of this folder, and compares
 //! after every call: the answer, the record, every table and the way list. Of the queue's list and places the
 //! order is free; which cells they name is compared, and that the library's are a true heap is checked by the model.
-//! Drills are written by both too, and every byte of the room is compared.
+//! Drills are written by both too, and reasons given by both, and every entry of the rooms is compared.
 //!
 //! `through_c [PERCENT [SEED]]` plays so much of what the test command plays (100 if not given), all drawn from SEED.
 //! It prints what it played; at the first difference it prints the call with its tables and fails.
@@ -10,6 +10,8 @@ mod asked;
 mod bases;
 mod breaks;
 mod edges;
+mod explained;
+mod explaining;
 mod flips;
 mod pair;
 mod queue_breaks;
@@ -25,6 +27,7 @@ use compare::chance::Chance;
 use compare::made::sound_tables;
 use compare::model::{cells_of, ABSENT, INFINITE};
 use compare::rounds::{opened, play_long, play_long_with_doors, play_round};
+use explaining::explain_plans;
 use flips::play_flipped;
 use pair::Pair;
 use writing::write_drills;
@@ -165,5 +168,11 @@ fn main() {
         writing.calls, writing.written, writing.refused
     );
     all += writing.calls;
+    let explaining = explain_plans(seed, percent);
+    println!(
+        "reasons asked for, every entry of the rooms looked at: {} calls; reached, along, through, no walk {:?}; refused by number {:?}",
+        explaining.calls, explaining.told, explaining.refused
+    );
+    all += explaining.calls;
     println!("{} calls through the C interface, each as the model's", all);
 }

@@ -147,7 +147,7 @@ pub fn play_round(chance: &mut Chance, player: &mut impl Player, range: u64) {
 }
 
 /// Draws a plan. In some, moves lead east and south only, so that every door is one-way.
-fn draw_floor(chance: &mut Chance, width: u64, height: u64, range: u64) -> Vec<u8> {
+pub fn draw_floor(chance: &mut Chance, width: u64, height: u64, range: u64) -> Vec<u8> {
     let shut = [0, 10, 25, 45, 100][chance.draw(5) as usize];
     let mut plan = draw_plan(chance, width, height, shut, range);
     if chance.draw(5) == 0 {

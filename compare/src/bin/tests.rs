@@ -1121,7 +1121,8 @@ fn costs_along(count: &mut Count) {
     told("and the other way round", 2, 2, &square, &[0, 2, 3, 1], &[0, 250, 500, 750]);
     // The longest list of the largest plan, through every cell, to and fro row by row.
     let full = even_plan(64, 64, 250);
-    let snake: Vec<u16> = (0..64).flat_map(|row| (0..64).map(move |at| 64 * row + if row % 2 == 0 { at } else { 63 - at })).collect();
+    let in_row = |row: u16| (0..64).map(move |at| 64 * row + if row % 2 == 0 { at } else { 63 - at });
+    let snake: Vec<u16> = (0..64).flat_map(in_row).collect();
     let costs: Vec<u32> = (0..4_096).map(|moves| 250 * moves).collect();
     told("every cell of 64 by 64", 64, 64, &full, &snake, &costs);
 }
