@@ -1,6 +1,6 @@
 """What compare/drills and compare/fuzz share.
 
-Drill files, runs of the runner, of the model and of the writer, and what is told of a difference.
+Drill files, runs of the runner, of the model and through the C interface, and what is told of a difference.
 """
 
 import collections
@@ -148,24 +148,46 @@ def play(command, stdin=subprocess.DEVNULL):
     return Run(lines, complaint, process.returncode)
 
 
-class Rewriting:
-    """Drills taken apart and written again through the C interface, and what came of it."""
+class ThroughC:
+    """A program of compare/library that is given each drill and makes its calls through the C interface."""
 
-    def __init__(self, models, archive):
-        subprocess.run([os.path.join(ROOT, "compare", "link"), models, archive, "rewrites"], check=True)
-        self.program = os.path.join(models, "rewrites")
+    def __init__(self, models, archive, name, who):
+        subprocess.run([os.path.join(ROOT, "compare", "link"), models, archive, name], check=True)
+        self.program = os.path.join(models, name)
+        self.who = who
         self.outcomes = []
 
     def fault(self, path):
-        """What is wrong with a drill that is written again: nothing, or what was wanted and what came."""
+        """What is wrong with a drill there: nothing, or what was wanted and what came."""
         came = play([self.program, path])
         if (came.complaint, came.status) != (b"", 0):
-            return "the writer", Run(b"", b"", 0), came
+            return self.who, Run(b"", b"", 0), came
         self.outcomes.append(came.lines.decode().strip())
         return None
 
+
+class Rewriting(ThroughC):
+    """Drills taken apart and written again, and what came of it."""
+
+    def __init__(self, models, archive):
+        super().__init__(models, archive, "rewrites", "the writer")
+
     def __str__(self):
         return f"through the C interface {counted(collections.Counter(self.outcomes))}"
+
+
+class Explaining(ThroughC):
+    """Drills whose answers the reasons are asked for, and how many of each kind there were."""
+
+    def __init__(self, models, archive):
+        super().__init__(models, archive, "explains", "the reasons")
+
+    def __str__(self):
+        counts = collections.Counter()
+        for outcome in self.outcomes:
+            words = outcome.split()
+            counts.update({word: int(number) for number, word in zip(words[::2], words[1::2])})
+        return f"reasons of {counts['ways']:,} ways (through {counts['moves']:,} moves), {counts['none']:,} none, {counts['caught']:,} caught"
 
 
 # The report.

@@ -178,18 +178,23 @@ pub fn run(file: &[u8]) -> String {
 
 /// Plays a drill that was read, and gives its lines.
 fn play(drill: Drill) -> String {
+    let mut lines = String::new();
+    play_seen(drill, |_, _, answer, way| lines.push_str(&line_of(answer, way)));
+    lines
+}
+
+/// Plays a drill that was read, and shows each action's record, plan, answer and way list.
+pub fn play_seen(drill: Drill, mut seen: impl FnMut(&Session, &[u8], &Answer, &[u16])) {
     let cells = drill.plan.len() / 4;
     let mut tables = Tables::filled(drill.plan, cells, 0);
     let mut way = vec![0u16; cells];
     let (answer, mut session) = open(drill.width, drill.height, drill.hunter, drill.target, &mut tables);
     assert_eq!(answer, Answer::Accepted, "open takes a drill that was read");
-    let mut lines = String::new();
     for action in drill.actions.chunks(ACTION).map(Action::read) {
         let (answer, after) = act(&session, &mut tables, &mut way, &action);
         session = after;
-        lines.push_str(&line_of(&answer, &way));
+        seen(&session, &tables.plan, &answer, &way);
     }
-    lines
 }
 
 fn act(session: &Session, tables: &mut Tables, way: &mut [u16], action: &Action) -> (Answer, Session) {
