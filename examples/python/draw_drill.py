@@ -11,23 +11,9 @@ EXAMPLES = os.path.dirname(os.path.dirname(os.path.abspath(__file__)))
 sys.path.insert(0, EXAMPLES)
 
 from drawn import drill_in
+from library import LIBRARY, function_in, refused
 
 GREATEST_FILE = 65536
-LIBRARY = os.path.join(os.path.dirname(EXAMPLES), "target", "archive", "librongdhesi.so")
-HOW_TO_BUILD = (
-    "include/build_archive target/archive && gcc -shared -o target/archive/librongdhesi.so"
-    " -Wl,--whole-archive target/archive/librongdhesi.a -Wl,--no-whole-archive"
-)
-# What the refusal numbers mean to one who draws.
-REFUSALS = {
-    1: "width or height is not 1 to 64",
-    2: "the plan is not of its length",
-    3: "hunter or target is not in the plan",
-    4: "a move that leaves the plan is not shut",
-    5: "a cost is not 1 to 250",
-    7: "the room for the file is too short",
-    8: "an action is badly formed, or there are more actions than a drill file has room for",
-}
 
 
 class Written(Structure):
@@ -36,15 +22,7 @@ class Written(Structure):
 
 def writer_in(path):
     """The function that writes a drill: four numbers, then plan, actions and room, each with its length."""
-    if not os.path.exists(path):
-        sys.exit(f"draw_drill.py: there is no library {path}; in the project's folder, build it by: {HOW_TO_BUILD}")
-    try:
-        write_drill = ctypes.CDLL(os.path.abspath(path)).rongdhesi_write_drill
-    except (OSError, AttributeError) as error:
-        sys.exit(f"draw_drill.py: {error}")
-    write_drill.argtypes = [c_uint64] * 4 + [c_char_p, c_size_t] * 3
-    write_drill.restype = Written
-    return write_drill
+    return function_in(path, "rongdhesi_write_drill", [c_uint64] * 4 + [c_char_p, c_size_t] * 3, Written)
 
 
 def file_of(drill, write_drill):
@@ -53,7 +31,7 @@ def file_of(drill, write_drill):
     numbers = drill.width, drill.height, drill.hunter, drill.target
     written = write_drill(*numbers, drill.plan, len(drill.plan), drill.actions, len(drill.actions), room, len(room))
     if written.refusal != 0:
-        sys.exit(f"draw_drill.py: refused {written.refusal}: {REFUSALS[written.refusal]}")
+        refused(written.refusal)
     return room.raw[: written.bytes]
 
 
