@@ -1,6 +1,6 @@
 //! The time of a call, of one process on one set of scenes: the proved library through its C interface, the same in
 //! plain Rust with and without the check of soundness, and A* from scratch. Every answer is compared on the way.
-//! Then a drill is written, by the library and in plain Rust.
+//! Then a drill is written and reasons are given, by the library and in plain Rust.
 
 #[path = "../../include/rongdhesi.rs"]
 #[allow(dead_code)]
@@ -252,15 +252,20 @@ fn measure_scenes() {
     println!("library / Rust checked, geometric mean: search {}, change {}.", mean_of(&searches), mean_of(&changes));
 }
 
-/// The least time of one run out of many, in microseconds.
-fn least_time<T>(mut run: impl FnMut() -> T) -> f64 {
+/// The least time of one run out of so many, in microseconds.
+fn least_of<T>(runs: usize, mut run: impl FnMut() -> T) -> f64 {
     let mut least = u64::MAX;
-    for _ in 0..2_000 {
+    for _ in 0..runs {
         let began = Instant::now();
         black_box(run());
         least = least.min(began.elapsed().as_nanos() as u64);
     }
     least as f64 / 1e3
+}
+
+/// The least time of one run out of many.
+fn least_time<T>(run: impl FnMut() -> T) -> f64 {
+    least_of(2_000, run)
 }
 
 /// The check alone: a change of cell N is refused by 3, after all tables were found sound.
@@ -338,6 +343,64 @@ fn measure_writing() {
     );
 }
 
+/// The number that the library refuses by, or its answer.
+fn answered<T>(refusal: u64, answer: T) -> Result<T, u8> {
+    if refusal == 0 { Ok(answer) } else { Err(refusal as u8) }
+}
+
+/// The reasons for the hunters and targets of a scene's turns: what is reached, and the least cost through a move. Of the
+/// plan's open moves as many are named as there are turns, one as far from the next as from the one before.
+fn measure_reason(scene: &Scene) {
+    let (side, cells) = (scene.side as u64, scene.side * scene.side);
+    let open: Vec<usize> = (0..4 * cells).filter(|&at| scene.plan[at] != 255).collect();
+    let first = &scene.turns[0];
+    let mut rust = plain::Session::open(scene.side, scene.side, first.hunter, first.target, scene.plan.clone());
+    let [mut our_rows, mut their_rows] = [[0; 64]; 2];
+    let [mut our_moves, mut their_moves] = [0; 2].map(|_| vec![0; 2 * cells]);
+    let mut times = [0.0; 4];
+    for (number, turn) in scene.turns.iter().enumerate() {
+        let (hunter, target) = (turn.hunter, turn.target);
+        let at = open[open.len() * number / scene.turns.len()];
+        let mut reached = || {
+            let told = rongdhesi::explain_reached(side, side, hunter as u64, &scene.plan, &mut our_rows, &mut our_moves);
+            answered(told.refusal, (told.cells as usize, told.moves as usize))
+        };
+        let through = || {
+            let (cell, direction) = (at as u64 / 4, at as u64 % 4);
+            let told = rongdhesi::explain_through(side, side, hunter as u64, target as u64, &scene.plan, cell, direction);
+            answered(told.refusal, (told.walk == 1).then_some(told.cost as u32))
+        };
+        assert_eq!(reached(), rust.reached(hunter, &mut their_rows, &mut their_moves));
+        assert_eq!(through(), rust.through(hunter, target, at / 4, at % 4));
+        times[0] += least_of(100, &mut reached);
+        times[1] += least_of(100, || rust.reached(hunter, &mut their_rows, &mut their_moves));
+        times[2] += least_of(100, through);
+        times[3] += least_of(100, || rust.through(hunter, target, at / 4, at % 4));
+        assert!(our_rows == their_rows && our_moves == their_moves, "the cells reached differ");
+    }
+    let [ours, theirs, our_walk, their_walk] = times.map(|time| time / scene.turns.len() as f64);
+    println!(
+        "| {0} by {0} | {1} | {2:.2} | {3:.2} | {4:.2} | {5:.2} | {6:.2} | {7:.2} |",
+        scene.side,
+        scene.kind.name(),
+        ours,
+        theirs,
+        ours / theirs,
+        our_walk,
+        their_walk,
+        our_walk / their_walk
+    );
+}
+
+/// Measures the reasons on plans of each size, on the largest for each kind, and prints the table.
+fn measure_reasons() {
+    println!("| Plan | Kind | Reached: library | Rust | library / Rust | Through: library | Rust | library / Rust |");
+    println!("|---|---|---|---|---|---|---|---|");
+    for (side, kind) in [(64, Kind::Shut), (64, Kind::Maze), (64, Kind::Rooms), (32, Kind::Shut), (16, Kind::Shut)] {
+        measure_reason(&scenes::draw(side, kind, 0, 20, 99));
+    }
+}
+
 fn main() {
     println!("Times of a call in microseconds, each at its least of five runs, in which the four take turns.");
     println!();
@@ -350,4 +413,8 @@ fn main() {
     println!("The largest drill file written into a room that is there, the least of 2,000 runs:");
     println!();
     measure_writing();
+    println!();
+    println!("What the hunter reaches, and the least cost through a named move, mean of 20 questions, each the least of 100 runs:");
+    println!();
+    measure_reasons();
 }

@@ -1,6 +1,6 @@
 //! The library's calls once more in plain Rust: the same steps over the same flat tables, with nothing proved.
 //! `CHECKED` says whether a change and a search first test that the tables are sound, and a drill that is written whether
-//! it is refused, as the library does.
+//! it is refused, as the library does. The reasons are always asked of a plan that is tested first.
 
 pub const INFINITE: u32 = u32::MAX;
 const ABSENT: u16 = u16::MAX;
@@ -11,6 +11,7 @@ const GREATEST_GROWTH: u32 = 1_024_250;
 const ACTION: usize = 5;
 const TRAILER: usize = 12;
 const GREATEST_FILE: usize = 65_536;
+const GREATEST_CELLS: usize = 4_096;
 
 /// A direction's step in rows and in columns, each plus 1.
 #[derive(Clone, Copy)]
@@ -126,6 +127,28 @@ fn edges_hold(width: usize, height: usize, plan: &[u8]) -> bool {
     true
 }
 
+/// The number by which a size, a plan or one of these cells is refused, or 0.
+#[inline(always)]
+fn plan_refusal(width: usize, height: usize, given: &[usize], plan: &[u8]) -> u8 {
+    if width == 0 || height == 0 || width > 64 || height > 64 {
+        return 1;
+    }
+    let cells = width * height;
+    if plan.len() != 4 * cells {
+        return 2;
+    }
+    if given.iter().any(|&cell| cell >= cells) {
+        return 3;
+    }
+    if !edges_hold(width, height, plan) {
+        return 4;
+    }
+    if !plan.iter().all(|&byte| is_byte(byte)) {
+        return 5;
+    }
+    0
+}
+
 /// Are these five bytes a well-formed action?
 fn is_action(bytes: &[u8]) -> bool {
     match bytes[0] {
@@ -154,21 +177,9 @@ impl Drill<'_> {
 
     /// The number by which the drill is refused, or a room of so many bytes; 0 if neither is.
     fn refusal(self, room: usize) -> u8 {
-        if self.width == 0 || self.height == 0 || self.width > 64 || self.height > 64 {
-            return 1;
-        }
-        let cells = self.width * self.height;
-        if self.plan.len() != 4 * cells {
-            return 2;
-        }
-        if self.hunter >= cells || self.target >= cells {
-            return 3;
-        }
-        if !edges_hold(self.width, self.height, self.plan) {
-            return 4;
-        }
-        if !self.plan.iter().all(|&byte| is_byte(byte)) {
-            return 5;
+        let number = plan_refusal(self.width, self.height, &[self.hunter, self.target], self.plan);
+        if number != 0 {
+            return number;
         }
         let formed = self.actions.len() % ACTION == 0 && self.actions.chunks_exact(ACTION).all(is_action);
         if !formed || self.length() > GREATEST_FILE {
@@ -806,6 +817,110 @@ impl Session {
         }
         let cost = far - self.rhs[self.origin];
         Answer::Way { cost, steps, cells: self.write_way(way) }
+    }
+
+    // ---- the reasons
+
+    /// Marks the cells that the hunter can reach, by a list of those found, and gives their number.
+    fn fill_from(&self, hunter: usize, is_reached: &mut [bool; GREATEST_CELLS]) -> usize {
+        let mut list = [0u16; GREATEST_CELLS];
+        let (mut done, mut found) = (0, 1);
+        list[0] = hunter as u16;
+        is_reached[hunter] = true;
+        while done < found {
+            let u = list[done] as usize;
+            done += 1;
+            for d in 0..4 {
+                let Some((v, _)) = self.move_out(u, d) else {
+                    continue;
+                };
+                if !is_reached[v] {
+                    is_reached[v] = true;
+                    list[found] = v as u16;
+                    found += 1;
+                }
+            }
+        }
+        found
+    }
+
+    /// Notes the shut moves that lead out of the cells reached, and gives their number.
+    fn moves_out(&self, is_reached: &[bool; GREATEST_CELLS], out: &mut [u16; 2 * GREATEST_CELLS]) -> usize {
+        let mut number = 0;
+        let mut at = Spot { row: 0, column: 0 };
+        for u in 0..self.width * self.height {
+            if is_reached[u] {
+                for d in 0..4 {
+                    // A neighbour that is not reached is rare, so that is looked at first.
+                    let out_of = stays_in(self.width, self.height, at, d) && !is_reached[entered(self.width, u, d)];
+                    if out_of && self.plan[4 * u + d] == SHUT {
+                        out[number] = (4 * u + d) as u16;
+                        number += 1;
+                    }
+                }
+            }
+            at = onward(self.width, at);
+        }
+        number
+    }
+
+    /// Tells the cells that the hunter can reach, a row in one number, and the shut moves that lead out of them. Gives how
+    /// many there are of both, or the number by which it is refused.
+    #[inline(never)]
+    pub fn reached(&self, hunter: usize, rows: &mut [u64], moves: &mut [u16]) -> Result<(usize, usize), u8> {
+        let number = plan_refusal(self.width, self.height, &[hunter], &self.plan);
+        if number != 0 {
+            return Err(number);
+        }
+        let mut is_reached = [false; GREATEST_CELLS];
+        let mut out = [0; 2 * GREATEST_CELLS];
+        let found = self.fill_from(hunter, &mut is_reached);
+        let leading = self.moves_out(&is_reached, &mut out);
+        if rows.len() < self.height || moves.len() < leading {
+            return Err(7);
+        }
+        for (row, cells) in rows.iter_mut().zip(is_reached[..self.width * self.height].chunks_exact(self.width)) {
+            *row = cells.iter().rev().fold(0, |bits, &cell| bits << 1 | cell as u64);
+        }
+        moves[..leading].copy_from_slice(&out[..leading]);
+        Ok((found, leading))
+    }
+
+    /// The least cost from one cell to another, by a search from a fresh start.
+    fn fresh_cost(&mut self, hunter: usize, target: usize) -> Option<u32> {
+        if hunter == target {
+            return Some(0);
+        }
+        (self.hunter, self.target) = (hunter, target);
+        self.start_fresh();
+        let aim = self.aim();
+        while let Some(u) = self.chosen() {
+            self.step(aim, u);
+        }
+        let far = self.rhs[target];
+        (far != INFINITE).then_some(far)
+    }
+
+    /// The least cost from hunter to target through cell u's move in direction d, or the number by which it is refused.
+    /// The session's tables are the room for both searches.
+    #[inline(never)]
+    pub fn through(&mut self, hunter: usize, target: usize, u: usize, d: usize) -> Result<Option<u32>, u8> {
+        let number = plan_refusal(self.width, self.height, &[hunter, target, u], &self.plan);
+        if 0 < number && number < 4 {
+            return Err(number);
+        }
+        if number == 4 || d > 3 || !stays_in(self.width, self.height, self.spot_of(u), d) {
+            return Err(4);
+        }
+        let byte = self.plan[4 * u + d];
+        if number == 5 || byte == SHUT {
+            return Err(5);
+        }
+        let Some(before) = self.fresh_cost(hunter, u) else {
+            return Ok(None);
+        };
+        let behind = self.fresh_cost(entered(self.width, u, d), target);
+        Ok(behind.map(|behind| before + byte as u32 + behind))
     }
 
     /// Reads every entry of every table once, in order, as 64-bit sums. `EACH` says whether one entry is read at a time, as a
