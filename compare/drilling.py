@@ -187,7 +187,8 @@ class Explaining(ThroughC):
         for outcome in self.outcomes:
             words = outcome.split()
             counts.update({word: int(number) for number, word in zip(words[::2], words[1::2])})
-        return f"reasons of {counts['ways']:,} ways (through {counts['moves']:,} moves), {counts['none']:,} none, {counts['caught']:,} caught"
+        ways, moves, none, caught = (counts[word] for word in ("ways", "moves", "none", "caught"))
+        return f"reasons of {ways:,} ways (through {moves:,} moves), {none:,} none, {caught:,} caught"
 
 
 # The report.

@@ -1,6 +1,7 @@
 //! Reasons asked for: all plans of 2 by 2 cells with few costs, drawn plans of every size, and questions with known faults.
 
 use crate::explained;
+use crate::faults::{draw_of, draw_outside, places, spoil_byte};
 use compare::chance::Chance;
 use compare::explain::{Floor, Reached};
 use compare::model::{neighbour, SHUT};
@@ -58,7 +59,7 @@ impl Question {
 
     /// The places of the plan's bytes whose moves leave it, or of those whose moves stay.
     fn places(&self, leaving: bool) -> Vec<usize> {
-        (0..self.plan.len()).filter(|&at| self.entered(at).is_none() == leaving).collect()
+        places(self.width, self.height, leaving)
     }
 
     /// The places of the open moves.
@@ -174,11 +175,6 @@ fn question(width: u64, height: u64, plan: Vec<u8>) -> Question {
         moves: ROOM_ENOUGH,
         costs: ROOM_ENOUGH,
     }
-}
-
-/// Draws one of the numbers.
-fn draw_of<T: Copy>(chance: &mut Chance, numbers: &[T]) -> T {
-    numbers[chance.draw(numbers.len() as u64) as usize]
 }
 
 /// All lists of 0 to 5 of the four cells; those of none and of five are refused.
@@ -330,22 +326,6 @@ fn ask_longest(explaining: &mut Explaining) {
     }
 }
 
-/// Sets one byte of the plan, of a move that leaves it or of one that stays, to one of these that is refused there.
-/// Says whether there is such a move.
-fn spoil_byte(chance: &mut Chance, asked: &mut Question, leaving: bool, bytes: &[u8]) -> bool {
-    let places = asked.places(leaving);
-    if places.is_empty() {
-        return false;
-    }
-    asked.plan[draw_of(chance, &places)] = draw_of(chance, bytes);
-    true
-}
-
-/// Draws a number that is no cell of so many.
-fn draw_outside(chance: &mut Chance, cells: u64) -> u64 {
-    if chance.draw(2) == 0 { cells + chance.draw(3) } else { draw_great(chance).max(cells) }
-}
-
 /// Puts a pair into the list that are no neighbours: a cell beside itself, the last of a row and the first of the next, or
 /// any two. Says whether there is room for a pair.
 fn spoil_pair(chance: &mut Chance, asked: &mut Question) -> bool {
@@ -429,10 +409,9 @@ fn spoil(chance: &mut Chance, asked: &mut Question, call: Call, number: u8) -> b
         (7, _) => spoil_room(chance, asked, call),
         (5, Call::Along) if !of_plan => return shut_on_the_way(chance, asked),
         (5, Call::Through) if !of_plan => asked.plan[(4 * asked.cell + asked.direction) as usize] = SHUT,
-        (5, _) => return spoil_byte(chance, asked, false, &[0, 251, 252, 253, 254]),
         (4, Call::Along) if !of_plan => return spoil_pair(chance, asked),
         (4, Call::Through) if !of_plan => spoil_move(chance, asked),
-        (4, _) => return spoil_byte(chance, asked, true, &[0, 1, 2, 250, 251, 254]),
+        (4 | 5, _) => return spoil_byte(chance, asked.width, asked.height, &mut asked.plan, number == 4),
         (3, Call::Along) => {
             let place = chance.draw(asked.list.len() as u64) as usize;
             asked.list[place] = draw_outside(chance, cells).min(u16::MAX as u64) as u16;

@@ -12,6 +12,7 @@ mod breaks;
 mod edges;
 mod explained;
 mod explaining;
+mod faults;
 mod flips;
 mod pair;
 mod queue_breaks;

@@ -1,5 +1,6 @@
 //! Drills written: the edges with the answers that are due there, and drawn drills, sound or with known faults.
 
+use crate::faults::{draw_of, draw_outside, spoil_byte};
 use crate::written;
 use compare::chance::Chance;
 use compare::drawn::{draw_drill, most_actions};
@@ -211,28 +212,6 @@ fn write_sizes(seed: u64, writing: &mut Writing) {
     }
 }
 
-/// The places of the plan's bytes whose moves leave it, or of those whose moves stay.
-fn places(drill: &Drill, leaving: bool) -> Vec<usize> {
-    let leaves = |at: &usize| neighbour(drill.width, drill.height, at / 4, at % 4).is_none();
-    (0..drill.plan.len()).filter(|at| leaves(at) == leaving).collect()
-}
-
-/// Draws one of the numbers.
-fn draw_of<T: Copy>(chance: &mut Chance, numbers: &[T]) -> T {
-    numbers[chance.draw(numbers.len() as u64) as usize]
-}
-
-/// Sets one byte of the plan, of a move that leaves it or of one that stays, to one of these that is refused there.
-/// Says whether there is such a move.
-fn spoil_byte(chance: &mut Chance, drill: &mut Drill, leaving: bool, bytes: &[u8]) -> bool {
-    let places = places(drill, leaving);
-    if places.is_empty() {
-        return false;
-    }
-    drill.plan[draw_of(chance, &places)] = draw_of(chance, bytes);
-    true
-}
-
 /// Draws an action that is badly formed.
 fn draw_bad_action(chance: &mut Chance) -> [u8; ACTION] {
     let (placing, number) = (2 + chance.draw(2) as u8, 1 + chance.draw(255) as u8);
@@ -256,20 +235,14 @@ fn spoil_actions(chance: &mut Chance, drill: &mut Drill) {
     }
 }
 
-/// Draws a number that is no cell of so many.
-fn draw_outside(chance: &mut Chance, cells: u64) -> u64 {
-    if chance.draw(2) == 0 { cells + chance.draw(3) } else { draw_great(chance).max(cells) }
-}
-
 /// Gives a drill, or its room, the fault of a number. Says whether it could: a plan of one cell has no move that stays.
 fn spoil(chance: &mut Chance, drill: &mut Drill, room: &mut usize, number: u8) -> bool {
-    let cells = drill.width * drill.height;
-    let length = drill.plan.len();
+    let Drill { width, height, .. } = *drill;
+    let (cells, length) = (width * height, drill.plan.len());
     match number {
         7 => *room = [0, *room - 1, chance.draw(*room as u64) as usize][chance.draw(3) as usize],
         8 => spoil_actions(chance, drill),
-        5 => return spoil_byte(chance, drill, false, &[0, 251, 252, 253, 254]),
-        4 => return spoil_byte(chance, drill, true, &[0, 1, 2, 250, 251, 254]),
+        4 | 5 => return spoil_byte(chance, width, height, &mut drill.plan, number == 4),
         3 if chance.draw(2) == 0 => drill.hunter = draw_outside(chance, cells),
         3 => drill.target = draw_outside(chance, cells),
         2 => drill.plan.resize([0, length - 1, length + 1, length - 4, length + 4][chance.draw(5) as usize], SHUT),
