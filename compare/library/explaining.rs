@@ -306,6 +306,18 @@ fn ask_largest(explaining: &mut Explaining) {
     }
 }
 
+/// A comb of the largest plan, column 0 and every second row: thousands of shut moves lead out of it.
+fn ask_comb(explaining: &mut Explaining) {
+    let mut asked = question(64, 64, vec![SHUT; 4 * 4_096]);
+    let of_comb = |cell: usize| cell % 64 == 0 || cell / 64 % 2 == 0;
+    for at in asked.places(false) {
+        if of_comb(at / 4) && asked.entered(at).is_some_and(of_comb) {
+            asked.plan[at] = 1;
+        }
+    }
+    explaining.reached_in_rooms(&mut asked);
+}
+
 /// The longest walks there are, 4,095 moves one way and as many back, each at the greatest cost.
 fn ask_longest(explaining: &mut Explaining) {
     let mut asked = question(64, 64, vec![SHUT; 4 * 4_096]);
@@ -464,6 +476,7 @@ pub fn explain_plans(seed: u64, percent: u64) -> Explaining {
     let mut explaining = Explaining::default();
     ask_every_small_plan(percent, &mut explaining);
     ask_largest(&mut explaining);
+    ask_comb(&mut explaining);
     ask_longest(&mut explaining);
     ask_sizes(seed, percent, &mut explaining);
     ask_faulty(seed, percent, &mut explaining);
