@@ -38,6 +38,16 @@ use Rattle.drill_writer.proofs.Theorems as writer
 use Rattle.rongdhesi.specs.declared.Lengths.{Lengths}
 use Rattle.rongdhesi.specs.declared.Written.{Written}
 use Rattle.rongdhesi.specs.Told.{kindOf, replyOf, writtenOf, CallTold, SearchTold, Measures, WritingTold}
+use Rattle.reach.specs.Promise.{ReachRules, Reports}
+use Rattle.reach.proofs.Theorems.{reach-refused, reach-number, one-reach}
+use Rattle.walks.specs.Along.{AlongRules, Costed}
+use Rattle.walks.proofs.AlongTheorems.{along-refused, along-number, one-along}
+use Rattle.walks.specs.Through.{ThroughRules, Passes}
+use Rattle.walks.proofs.ThroughTheorems.{through-refused, through-number, one-through}
+use Rattle.rongdhesi.specs.declared.Reached.{Reached}
+use Rattle.rongdhesi.specs.declared.Running.{Running}
+use Rattle.rongdhesi.specs.declared.Through.{Through}
+use Rattle.rongdhesi.specs.Reasons.{reachedOf, runningOf, throughOf, Gives}
 use Rattle.rongdhesi.specs.Demanded.{ToldExactly, RightlyTold, TakesTheStepsTold, FewStepsTold}
 
 -- ---- what is told of a reply
@@ -221,3 +231,55 @@ pub one-writing-told : {width height hunter target : ℕ} {plan actions file a b
 one-writing-told P Q =
     let one = one-writing (P .promised) (Q .promised) in
     (P .told ∙ ap (λ (x : DrillWritten). writtenOf (writtenTold x)) (one .0) ∙ sym (Q .told), one .1)
+
+-- ---- what is asked of a plan alone
+
+-- Two results told of equal answers are equal.
+same-given : {A B : Type 0} {tell : A → B} {P Q : A → Type 0} {r s : B} (a : Gives tell P r) (b : Gives tell Q s) → a .called ≡ b .called → r ≡ s
+same-given {tell = tell} a b e = a .told ∙ ap tell e ∙ sym (b .told)
+
+module _ {width height hunter : ℕ} {plan rows moves rows′ moves′ : List ℕ} {r : Reached} (P : Gives reachedOf (λ x. Reports width height hunter plan rows moves x rows′ moves′) r) where
+  -- Where k is the number of the first rule broken, the reply carries k and nothing else, and nothing has changed;
+  pub reached-refused : {k : ℕ} → ReachRules width height hunter plan rows moves k → k ≢ 0 → (r ≡ record { refusal = k; cells = 0; moves = 0 }) × (rows′ ≡ rows) × (moves′ ≡ moves)
+  reached-refused rules n =
+      let d = reach-refused (P .promised) rules n in
+      (P .told ∙ ap reachedOf (d .0), d .1, d .2)
+
+  -- the number told is k exactly if k is the number of the first rule broken, and 0 exactly if none is.
+  pub reached-told-exactly : (k : ℕ) → (r .refusal ≡ k) ↔ ReachRules width height hunter plan rows moves k
+  reached-told-exactly k = subst (λ (y : Reached). (y .refusal ≡ k) ↔ ReachRules width height hunter plan rows moves k) (sym (P .told)) (reach-number (P .promised) k)
+
+module _ {width height : ℕ} {plan cells costs costs′ : List ℕ} {r : Running} (P : Gives runningOf (λ x. Costed width height plan cells costs x costs′) r) where
+  -- The same of the running costs ..
+  pub running-refused : {k : ℕ} → AlongRules width height plan cells (length costs) k → k ≢ 0 → (r ≡ record { refusal = k; costs = 0 }) × (costs′ ≡ costs)
+  running-refused rules n =
+      let d = along-refused (P .promised) rules n in
+      (P .told ∙ ap runningOf (d .0), d .1)
+
+  pub running-told-exactly : (k : ℕ) → (r .refusal ≡ k) ↔ AlongRules width height plan cells (length costs) k
+  running-told-exactly k = subst (λ (y : Running). (y .refusal ≡ k) ↔ AlongRules width height plan cells (length costs) k) (sym (P .told)) (along-number (P .promised) k)
+
+module _ {width height hunter target : ℕ} {plan : List ℕ} {cell direction : ℕ} {r : Through} (P : Gives throughOf (Passes width height hunter target plan cell direction) r) where
+  -- .. and of the least cost through a move, for which nothing is lent to write.
+  pub through-told-refused : {k : ℕ} → ThroughRules width height hunter target plan cell direction k → k ≢ 0 → r ≡ record { refusal = k; walk = 0; cost = 0 }
+  through-told-refused rules n = P .told ∙ ap throughOf (through-refused (P .promised) rules n)
+
+  pub through-told-exactly : (k : ℕ) → (r .refusal ≡ k) ↔ ThroughRules width height hunter target plan cell direction k
+  through-told-exactly k = subst (λ (y : Through). (y .refusal ≡ k) ↔ ThroughRules width height hunter target plan cell direction k) (sym (P .told)) (through-number (P .promised) k)
+
+-- Two results that a statement allows are equal, every lent number too.
+pub one-reached-told : {width height hunter : ℕ} {plan rows moves a b c d : List ℕ} {r s : Reached} → Gives reachedOf (λ x. Reports width height hunter plan rows moves x a b) r
+    → Gives reachedOf (λ x. Reports width height hunter plan rows moves x c d) s → (r ≡ s) × (a ≡ c) × (b ≡ d)
+one-reached-told P Q =
+    let one = one-reach (P .promised) (Q .promised) in
+    (same-given P Q (one .0), one .1, one .2)
+
+pub one-running-told : {width height : ℕ} {plan cells costs a b : List ℕ} {r s : Running} → Gives runningOf (λ x. Costed width height plan cells costs x a) r
+    → Gives runningOf (λ x. Costed width height plan cells costs x b) s → (r ≡ s) × (a ≡ b)
+one-running-told P Q =
+    let one = one-along (P .promised) (Q .promised) in
+    (same-given P Q (one .0), one .1)
+
+pub one-through-told : {width height hunter target : ℕ} {plan : List ℕ} {cell direction : ℕ} {r s : Through} → Gives throughOf (Passes width height hunter target plan cell direction) r
+    → Gives throughOf (Passes width height hunter target plan cell direction) s → r ≡ s
+one-through-told P Q = same-given P Q (one-through (P .promised) (Q .promised))

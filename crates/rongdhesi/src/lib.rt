@@ -4,10 +4,12 @@ use answer;
 use change;
 use drill_writer;
 use plan;
+use reach;
 use search;
 use search::Outcome;
 use session;
 use tables::Session;
+use walks;
 ghost use mathlib.Core.Path.{_≡_};
 ghost use Rattle.tables.specs.Lent.{before, after};
 ghost use Rattle.tables.specs.Told.{toldRefusal};
@@ -16,7 +18,11 @@ ghost use Rattle.session.specs.Promises.{hunterAt, targetAt, Places, Opens};
 ghost use Rattle.change.specs.Promise.{Changes};
 ghost use Rattle.search.specs.Promise.{Searches};
 ghost use Rattle.drill_writer.specs.Promise.{writtenTold, Writes};
+ghost use Rattle.reach.specs.Promise.{Reports};
+ghost use Rattle.walks.specs.Along.{Costed};
+ghost use Rattle.walks.specs.Through.{Passes};
 ghost use Rattle.rongdhesi.specs.Told.{replyOf, OutcomeTold, byteOf, writtenOf, CallTold, SearchTold, Measures, WritingTold};
+ghost use Rattle.rongdhesi.specs.Reasons.{reachedOf, runningOf, throughOf, Gives};
 
 // The kinds of answer.
 const DONE: usize = 0;
@@ -53,6 +59,29 @@ pub struct Lengths {
 pub struct Written {
     pub refusal: usize,
     pub bytes: usize,
+}
+
+// What a question about a plan returns; what an answer lacks is 0. The cells reached and the shut moves that lead out of them ..
+#[repr(C)]
+pub struct Reached {
+    pub refusal: usize,
+    pub cells: usize,
+    pub moves: usize,
+}
+
+// .. how many running costs were written ..
+#[repr(C)]
+pub struct Running {
+    pub refusal: usize,
+    pub costs: usize,
+}
+
+// .. and whether there is a walk (1 or 0), and its least cost.
+#[repr(C)]
+pub struct Through {
+    pub refusal: usize,
+    pub walk: usize,
+    pub cost: usize,
 }
 
 // A refusal in numbers: it "carries its number only".
@@ -292,4 +321,106 @@ pub extern "C" fn rongdhesi_write_drill(
 {
     let called = drill_writer::write(width, height, hunter, target, plan, actions, file);
     written_told(called)
+}
+
+// The answers about a plan in numbers: what the hunter reaches ..
+fn reached_told(called: reach::Reaching) -> Reached
+    ensures { λ r. ⌜ r ≡ reachedOf called ⌝ }
+{
+    match called {
+        reach::Reaching::Reaches(cells, moves) => Reached {
+            refusal: 0,
+            cells,
+            moves,
+        },
+        reach::Reaching::Refused(refusal) => Reached {
+            refusal: refusal as usize,
+            cells: 0,
+            moves: 0,
+        },
+    }
+}
+
+// .. the running costs ..
+fn running_told(called: walks::Running) -> Running
+    ensures { λ r. ⌜ r ≡ runningOf called ⌝ }
+{
+    match called {
+        walks::Running::Costs(costs) => Running { refusal: 0, costs },
+        walks::Running::Refused(refusal) => Running {
+            refusal: refusal as usize,
+            costs: 0,
+        },
+    }
+}
+
+// .. and the least cost through a move.
+fn through_told(called: walks::Passing) -> Through
+    ensures { λ r. ⌜ r ≡ throughOf called ⌝ }
+{
+    match called {
+        walks::Passing::Cost(cost) => Through {
+            refusal: 0,
+            walk: 1,
+            cost: cost as usize,
+        },
+        walks::Passing::NoWalk => Through {
+            refusal: 0,
+            walk: 0,
+            cost: 0,
+        },
+        walks::Passing::Refused(refusal) => Through {
+            refusal: refusal as usize,
+            walk: 0,
+            cost: 0,
+        },
+    }
+}
+
+// Writes the cells that the hunter can reach, a row in one number, and the shut moves that lead out of them.
+#[no_mangle]
+pub extern "C" fn rongdhesi_explain_reached(
+    width: usize,
+    height: usize,
+    hunter: usize,
+    plan: &[u8],
+    rows: &mut [u64],
+    moves: &mut [u16],
+) -> Reached
+    ensures { λ r. ⌜ Gives reachedOf (λ x. Reports width height hunter (now (plan .entry)) (now (rows .entry)) (now (moves .entry)) x (now (rows .exit)) (now (moves .exit))) r ⌝ }
+{
+    let called = reach::reached(width, height, hunter, plan, rows, moves);
+    reached_told(called)
+}
+
+// Writes the running cost at each listed cell.
+#[no_mangle]
+pub extern "C" fn rongdhesi_explain_along(
+    width: usize,
+    height: usize,
+    plan: &[u8],
+    cells: &[u16],
+    costs: &mut [u32],
+) -> Running
+    ensures { λ r. ⌜ Gives runningOf (λ x. Costed width height (now (plan .entry)) (now (cells .entry)) (now (costs .entry)) x (now (costs .exit))) r ⌝ }
+{
+    let called = walks::along(width, height, plan, cells, costs);
+    running_told(called)
+}
+
+// The least cost of any walk from hunter to target through the move from a cell in a direction.
+#[no_mangle]
+pub extern "C" fn rongdhesi_explain_through(
+    width: usize,
+    height: usize,
+    hunter: usize,
+    target: usize,
+    plan: &[u8],
+    cell: usize,
+    direction: usize,
+) -> Through
+    ensures { λ r. ⌜ Gives throughOf (Passes width height hunter target (now (plan .entry)) cell direction) r ⌝ }
+{
+    let called = walks::through(width, height, hunter, target, plan, cell, direction);
+    through_told(called)
 }

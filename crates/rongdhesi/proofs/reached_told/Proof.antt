@@ -1,0 +1,25 @@
+-- Each variant of the answer is told by its numbers.
+use mathlib.Core.Path.{sym, ap}
+use borrow.Author.Needs.{needs}
+use Rattle.rongdhesi.specs.Reasons.{reachedOf}
+use Rattle.rongdhesi.proofs.reached_told.Statement.{statement}
+use Rattle.rongdhesi.proofs.reached_told.Tie as tie
+
+enum-known-called : tie.Need-enum-known-called
+enum-known-called c = search needs
+
+enum-known-called-2 : tie.Need-enum-known-called-2
+enum-known-called-2 c = search needs
+
+cast-t6 : tie.Need-cast-t6
+cast-t6 c = search needs
+
+returns : tie.Need-returns
+returns c = ap reachedOf (sym (c .before .called .given .1))
+
+returns-2 : tie.Need-returns-2
+returns-2 c = ap reachedOf (sym (c .before .called2 .given .1))
+
+pub reached-told-spec : {M : Type 1} → statement M
+reached-told-spec =
+    tie.close (tie.spec enum-known-called enum-known-called-2 cast-t6 returns returns-2)
