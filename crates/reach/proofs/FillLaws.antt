@@ -25,7 +25,7 @@ use Rattle.plan.proofs.MoveLaws.{out-shut, out-open, open-stays, spot-placed, e
 use Rattle.reach.specs.Bits.{bit, bitOf, Marked, sumTo}
 use Rattle.reach.specs.Reachable.{Reachable, Part}
 use Rattle.reach.specs.Outs.{Listed}
-use Rattle.reach.specs.Filling.{cellBy, codeOf, Within, Clean, Filled, Markable, Put, Looks, Visited, Going}
+use Rattle.reach.specs.Filling.{cellBy, codeOf, Within, Clean, Filled, Markable, Put, Looks, Looked, Grown, Going}
 use Rattle.reach.proofs.BitLaws.{bit-none, bit-set, bit-other, set-narrow, sum-more, sum-none, sum-le, bitOf-le}
 
 -- ---- what can be reached
@@ -224,8 +224,8 @@ module _ {p : Plan} (O : Obeys p) {h : ℕ} (lh : h < cells p) {rows list : List
 -- ---- one look
 
 -- The move is shut, or the cell that it enters is marked.
-pub nothing-new : {p : Plan} {x d : ℕ} {rows list : List ℕ} {count : ℕ} → Filled p rows list count → Looks p rows x d → Visited p x d rows list count rows list count
-nothing-new F l = record { filled = F; looks = l; le = omega arith; kept = λ i _. refl; grows = λ s m. m; from = λ i k j. absurd (omega arith) }
+pub nothing-new : {p : Plan} {x : ℕ} {rows list : List ℕ} {count : ℕ} → Filled p rows list count → Grown p x rows list count rows list count
+nothing-new F = record { filled = F; le = omega arith; kept = λ i _. refl; grows = λ s m. m; from = λ i k j. absurd (omega arith) }
 
 -- The cell that it enters is new.
 module _ {p : Plan} (O : Obeys p) {rows list : List ℕ} {count : ℕ} (F : Filled p rows list count) {x d : ℕ} (I : Within (p .width) (p .height) x) (ld : d < 4)
@@ -240,39 +240,63 @@ module _ {p : Plan} (O : Obeys p) {rows list : List ℕ} {count : ℕ} (F : Fill
   pub new-asks : Markable rows list count at
   new-asks = to-mark O F A inside clear
 
-  pub one-new : {rows′ list′ : List ℕ} {count′ : ℕ} → Put rows list count at rows′ list′ count′ → Visited p x d rows list count rows′ list′ count′
+  pub one-new : {rows′ list′ : List ℕ} {count′ : ℕ} → Put rows list count at rows′ list′ count′ → Grown p x rows list count rows′ list′ count′ × Looks p rows′ x d
   one-new P =
       let B = added O F A inside clear P in
-      record { filled = B .filled; looks = λ _. B .adds; le = omega (arith, B .one-more); kept = B .kept; grows = B .grows; from = λ i k l. last B i (omega (arith, B .one-more)) }
+      (record { filled = B .filled; le = omega (arith, B .one-more); kept = B .kept; grows = B .grows; from = λ i k l. last B i (omega (arith, B .one-more)) }, λ _. B .adds)
     where
       last : {rows′ list′ : List ℕ} {count′ : ℕ} → Added p rows list count (entered (p .width) (cellBy (p .width) x) d) rows′ list′ count′
           → (i : ℕ) → i ≡ count → Reachable p (cellBy (p .width) x) (cellBy (p .width) (getD list′ i 0))
       last B i e = rw (e, B .last) (reach-one p O (cellBy (p .width) x) d (in-plan I) ld n)
 
--- ---- from look to look
+-- ---- one look after the other
+
+pub grown-on : {p : Plan} {x : ℕ} {r₁ l₁ : List ℕ} {n₁ : ℕ} {r₂ l₂ : List ℕ} {n₂ : ℕ} {r₃ l₃ : List ℕ} {n₃ : ℕ}
+    → Grown p x r₁ l₁ n₁ r₂ l₂ n₂ → Grown p x r₂ l₂ n₂ r₃ l₃ n₃ → Grown p x r₁ l₁ n₁ r₃ l₃ n₃
+grown-on {p} {x} {l₂ = l₂} {n₂ = n₂} {l₃ = l₃} {n₃ = n₃} A B = record {
+  filled = B .filled;
+  le = omega (arith, A .le, B .le);
+  kept = λ i l. B .kept i (omega (arith, A .le)) ∙ A .kept i l;
+  grows = λ s m. B .grows s (A .grows s m);
+  from = λ i k l. from i l (A .from i k) (decLt i n₂);
+}
+  where
+    from : (i : ℕ) → i < n₃ → (i < n₂ → Reachable p (cellBy (p .width) x) (cellBy (p .width) (getD l₂ i 0))) → Dec (i < n₂) → Reachable p (cellBy (p .width) x) (cellBy (p .width) (getD l₃ i 0))
+    from i l h (yes m) = rw (B .kept i m) (h m)
+    from i l h (no m) = B .from i (omega arith) l
+
+looked-on : {p : Plan} {y : ℕ} {rows list : List ℕ} {count : ℕ} {rows′ list′ : List ℕ} {count′ : ℕ} (x n : ℕ) → Grown p y rows list count rows′ list′ count′
+    → Looked p rows x n → Looked p rows′ x n
+looked-on {p} x n B h d l o = B .grows (entered (p .width) (cellBy (p .width) x) d) (h d l o)
+
+pub looked-more : {p : Plan} {x : ℕ} {rows list : List ℕ} {count : ℕ} {rows′ list′ : List ℕ} {count′ : ℕ} (d : ℕ) → Grown p x rows list count rows′ list′ count′
+    → Looked p rows x d → Looks p rows′ x d → Looked p rows′ x (d + 1)
+looked-more {p} {x} {rows′ = rows′} d B h new = below-more (Looks p rows′ x) d (looked-on x d B h) new
+
+-- ---- one cell after the other
 
 module _ {p : Plan} {h : ℕ} {rows list : List ℕ} {count looked : ℕ} (G : Going p h rows list count looked) where
   pub going-le : count ≤ cells p
   going-le = omega (arith, G .filled .counted, sum-le (bitOf (p .width) rows) (bitOf-le (p .width) rows) (cells p))
 
-  pub going-on : {rows′ list′ : List ℕ} {count′ : ℕ} → looked < 4 * count → Visited p (getD list (looked / 4) 0) (looked % 4) rows list count rows′ list′ count′
+  pub going-on : {rows′ list′ : List ℕ} {count′ : ℕ} → looked < count → Grown p (getD list looked 0) rows list count rows′ list′ count′ → Looked p rows′ (getD list looked 0) 4
       → Going p h rows′ list′ count′ (looked + 1)
-  going-on {rows′} {list′} {count′} l S = record {
-    filled = S .filled;
-    le = omega (arith, S .le);
-    own = S .grows h (G .own);
+  going-on {rows′} {list′} {count′} l B new = record {
+    filled = B .filled;
+    le = omega (arith, B .le);
+    own = B .grows h (G .own);
     reached = λ i k. reached i k (decLt i count);
-    looks = below-more (λ j. Looks p rows′ (getD list′ (j / 4) 0) (j % 4)) looked
-        (λ j k. rw (S .kept (j / 4) (omega arith)) (λ n. S .grows (entered (p .width) (cellBy (p .width) (getD list (j / 4) 0)) (j % 4)) (G .looks j k n)))
-        (rw (S .kept (looked / 4) (omega arith)) (S .looks));
+    looks = below-more (λ i. Looked p rows′ (getD list′ i 0) 4) looked
+        (λ i k. rw (B .kept i (omega arith)) (looked-on (getD list i 0) 4 B (G .looks i k)))
+        (rw (B .kept looked l) new);
   }
     where
       reached : (i : ℕ) → i < count′ → Dec (i < count) → Reachable p h (cellBy (p .width) (getD list′ i 0))
-      reached i k (yes m) = rw (S .kept i m) (G .reached i m)
-      reached i k (no m) = reach-join (G .reached (looked / 4) (omega arith) .chain) (S .from i (omega arith) k)
+      reached i k (yes m) = rw (B .kept i m) (G .reached i m)
+      reached i k (no m) = reach-join (G .reached looked l .chain) (B .from i (omega arith) k)
 
-  -- Every move was looked at: the part is whole.
-  pub whole : Obeys p → 4 * count ≤ looked → Part p h rows
+  -- Every cell was looked at: the part is whole.
+  pub whole : Obeys p → count ≤ looked → Part p h rows
   whole O done = record {
     so = λ s l m. let L = G .filled .listed s l m in rw (L .is, code-cell (O .size) s) at (G .reached (L .place) (L .low));
     whenever = λ s l R. closed-holds p O rows closed (R .chain) (G .own);
@@ -280,8 +304,4 @@ module _ {p : Plan} {h : ℕ} {rows list : List ℕ} {count looked : ℕ} (G : G
   }
     where
       closed : (s d : ℕ) → s < cells p → d < 4 → Marked (p .width) rows s → byte p s d ≢ shut → Marked (p .width) rows (entered (p .width) s d)
-      closed s d l ld m =
-          let L = G .filled .listed s l m in
-          let i : (4 * L .place + d) / 4 ≡ L .place = omega arith in
-          let j : (4 * L .place + d) % 4 ≡ d = omega arith in
-          rw (i, j, L .is, code-cell (O .size) s) at (G .looks (4 * L .place + d) (omega (arith, L .low)))
+      closed s d l ld m = let L = G .filled .listed s l m in rw (L .is, code-cell (O .size) s) at (G .looks (L .place) (omega (arith, L .low)) d ld)

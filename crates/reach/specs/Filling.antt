@@ -54,27 +54,30 @@ pub record Put (rows list : List ℕ) (count : ℕ) (at : Spot) (rows′ list′
   pub list-is : list′ ≡ set list count (64 * at .row + at .column)
   pub one-more : count′ ≡ count + 1
 
--- If the move from a cell of the list in direction d is open, the cell that it enters is marked.
+-- If the move from a cell of the list in direction d is open, the cell that it enters is marked ..
 abbrev pub Looks : Plan → List ℕ → ℕ → ℕ → Type 0
 Looks p rows x d = byte p (cellBy (p .width) x) d ≢ shut → Marked (p .width) rows (entered (p .width) (cellBy (p .width) x) d)
 
--- A move was looked at: nothing is taken away, and a cell added is one that the move's cell can reach.
-pub record Visited (p : Plan) (x d : ℕ) (rows list : List ℕ) (count : ℕ) (rows′ list′ : List ℕ) (count′ : ℕ) : Type 0 where
+-- .. and so of the first n directions.
+abbrev pub Looked : Plan → List ℕ → ℕ → ℕ → Type 0
+Looked p rows x n = (d : ℕ) → d < n → Looks p rows x d
+
+-- Nothing is taken away, and a cell added is one that a cell of the list can reach.
+pub record Grown (p : Plan) (x : ℕ) (rows list : List ℕ) (count : ℕ) (rows′ list′ : List ℕ) (count′ : ℕ) : Type 0 where
   pub filled : Filled p rows′ list′ count′
-  pub looks : Looks p rows′ x d
   pub le : count ≤ count′
   pub kept : (i : ℕ) → i < count → getD list′ i 0 ≡ getD list i 0
   pub grows : (s : ℕ) → Marked (p .width) rows s → Marked (p .width) rows′ s
   pub from : (i : ℕ) → count ≤ i → i < count′ → Reachable p (cellBy (p .width) x) (cellBy (p .width) (getD list′ i 0))
 
--- While the list's moves are looked at one after the other: the hunter's cell is marked, each listed cell can be reached, and of the moves before
--- this one each open one enters a marked cell.
+-- While the list is gone through: the hunter's cell is marked, each listed cell can be reached, and the open moves of the first `looked` cells enter
+-- marked cells.
 pub record Going (p : Plan) (h : ℕ) (rows list : List ℕ) (count looked : ℕ) : Type 0 where
   pub filled : Filled p rows list count
-  pub le : looked ≤ 4 * count
+  pub le : looked ≤ count
   pub own : Marked (p .width) rows h
   pub reached : (i : ℕ) → i < count → Reachable p h (cellBy (p .width) (getD list i 0))
-  pub looks : (j : ℕ) → j < looked → Looks p rows (getD list (j / 4) 0) (j % 4)
+  pub looks : (i : ℕ) → i < looked → Looked p rows (getD list i 0) 4
 
 -- The first n are those of another list, the rest stays.
 pub record Copied (from to : List ℕ) (n : ℕ) (to′ : List ℕ) : Type 0 where

@@ -12,7 +12,7 @@ ghost use Rattle.reach.specs.Bits.{Marked, onesOf};
 ghost use Rattle.reach.specs.Reachable.{Part};
 ghost use Rattle.reach.specs.Outs.{LeadsOut, Outs};
 ghost use Rattle.reach.specs.Promise.{PlanRules, Reports};
-ghost use Rattle.reach.specs.Filling.{Clean, Copied, Filled, Markable, Put, Visited, Within};
+ghost use Rattle.reach.specs.Filling.{Clean, Copied, Filled, Grown, Looked, Looks, Markable, Put, Within};
 
 // The bits of a row. A cell waits in the fill's list as 64 × row + column: its spot comes back without a division by the width.
 const BITS: usize = 64;
@@ -51,7 +51,8 @@ fn visit(
     requires { ⌜ Obeys (planOf width height (now plan)) ⌝ }
     requires { ⌜ Filled (planOf width height (now plan)) (now rows) (now list) count ⌝ }
     requires { ⌜ Within width height x × (d < 4) ⌝ }
-    ensures { λ r. ⌜ Visited (planOf width height (now (plan .entry))) x d (now (rows .entry)) (now (list .entry)) count (now (rows .exit)) (now (list .exit)) r ⌝ }
+    ensures { λ r. ⌜ Grown (planOf width height (now (plan .entry))) x (now (rows .entry)) (now (list .entry)) count (now (rows .exit)) (now (list .exit)) r ⌝ }
+    ensures { λ _. ⌜ Looks (planOf width height (now (plan .entry))) (now (rows .exit)) x d ⌝ }
 {
     let row = x / BITS;
     let column = x % BITS;
@@ -65,7 +66,30 @@ fn visit(
     mark(rows, list, count, to)
 }
 
-// Marks the hunter's cell, then looks at the four moves of each cell of the list, until none is left.
+// Looks at the four moves of a cell of the list.
+fn around(
+    width: usize,
+    height: usize,
+    plan: &[u8],
+    rows: &mut [u64],
+    list: &mut [u16],
+    count: usize,
+    x: usize,
+) -> usize
+    requires { ⌜ Obeys (planOf width height (now plan)) ⌝ }
+    requires { ⌜ Filled (planOf width height (now plan)) (now rows) (now list) count ⌝ }
+    requires { ⌜ Within width height x ⌝ }
+    ensures { λ r. ⌜ Grown (planOf width height (now (plan .entry))) x (now (rows .entry)) (now (list .entry)) count (now (rows .exit)) (now (list .exit)) r ⌝ }
+    ensures { λ _. ⌜ Looked (planOf width height (now (plan .entry))) (now (rows .exit)) x 4 ⌝ }
+{
+    let mut n = count;
+    for d in 0..4 {
+        n = visit(width, height, plan, rows, list, n, x, d);
+    }
+    n
+}
+
+// Marks the hunter's cell, then looks around each cell of the list, until none is left.
 fn fill(width: usize, height: usize, hunter: usize, plan: &[u8], rows: &mut [u64], list: &mut [u16])
     requires { ⌜ Obeys (planOf width height (now plan)) ⌝ }
     requires { ⌜ hunter < height * width ⌝ }
@@ -75,9 +99,9 @@ fn fill(width: usize, height: usize, hunter: usize, plan: &[u8], rows: &mut [u64
     let at = plan::spot_of(width, hunter);
     let mut count = mark(rows, list, 0, at);
     let mut looked = 0;
-    while looked < 4 * count {
-        let x = list[looked / 4] as usize;
-        count = visit(width, height, plan, rows, list, count, x, looked % 4);
+    while looked < count {
+        let x = list[looked] as usize;
+        count = around(width, height, plan, rows, list, count, x);
         looked += 1;
     }
 }

@@ -1,6 +1,6 @@
--- The hunter's cell is marked first; then each look keeps `Going` (`going-on`), and with no move left the part is whole.
+-- The hunter's cell is marked first; each cell looked at keeps `Going` (`going-on`), and with none left the part is whole.
 use mathlib.Core.Path.{_≡_, refl, _∙_}
-use Prim.Native.Nat.{_-_, _*_, _/_, _≤_}
+use Prim.Native.Nat.{_-_, _*_, _≤_}
 use native.Mathlib.Omega.{arith}
 use lib.ListN.{length}
 use Rattle.plan.specs.Costs.{planOf}
@@ -14,7 +14,7 @@ abbrev Inv-loop : tie.InvT-loop
 Inv-loop width height hunter plan rows₀ list₀ count₀ looked₀ rows list count looked = Going (planOf width height plan) hunter rows list count looked × (length rows ≡ length rows₀) × (length list ≡ length list₀)
 
 abbrev μ-loop : tie.MeasureT-loop
-μ-loop width height hunter plan rows₀ list₀ count₀ looked₀ rows list count looked = 4 * (height * width) - looked
+μ-loop width height hunter plan rows₀ list₀ count₀ looked₀ rows list count looked = height * width - looked
 
 -- The places that the answers look back to.
 abbrev after-mark : tie.After-slice-known4 Inv-loop μ-loop → tie.After-mark Inv-loop μ-loop
@@ -26,10 +26,10 @@ at-start c = c .before .before .before .before .before .before .before
 abbrev at-begin : tie.At-loop Inv-loop μ-loop → tie.Start Inv-loop μ-loop
 at-begin c = at-start (after-mark (c .before))
 
-abbrev after-visit : tie.After-slice-known7 Inv-loop μ-loop → tie.After-visit Inv-loop μ-loop
-after-visit c = c .before .before .before .before
+abbrev after-around : tie.After-slice-known7 Inv-loop μ-loop → tie.After-around Inv-loop μ-loop
+after-around c = c .before .before .before .before
 
-abbrev in-loop : tie.After-visit Inv-loop μ-loop → tie.In-loop Inv-loop μ-loop
+abbrev in-loop : tie.After-around Inv-loop μ-loop → tie.In-loop Inv-loop μ-loop
 in-loop c = c .before .before .before .before
 
 -- No more cells are listed than the plan has.
@@ -51,9 +51,6 @@ loop-holds c =
     let p = at-start m .pre in
     (going-first (p .0) (p .1 .0) (p .1 .1) (m .before .before .before .spot-of .ensures) (m .mark .ensures), refl, refl)
 
-mul-loop : tie.Need-mul-loop Inv-loop μ-loop
-mul-loop c = omega (arith, few c)
-
 mul-x : tie.Need-mul-x Inv-loop μ-loop
 mul-x c = omega (arith, few (c .before))
 
@@ -61,27 +58,27 @@ slice-read-x : tie.Need-slice-read-x Inv-loop μ-loop
 slice-read-x c = omega (arith, few (c .before .before), c .before .before .loop .inv .0 .filled .room)
 
 cast-x : tie.Need-cast-x Inv-loop μ-loop
-cast-x c = omega (arith, c .slice-known5 .given (c .before .before .loop .looked / 4))
+cast-x c = omega (arith, c .slice-known5 .given (c .before .before .loop .looked))
 
-visit-requires : tie.Need-visit-requires Inv-loop μ-loop
-visit-requires c κs =
+around-requires : tie.Need-around-requires Inv-loop μ-loop
+around-requires c κs =
     let t = c .before .before .before in
     let F = t .before .loop .inv .0 .filled in
-    (at-begin (t .before) .pre .0, (F, (F .inside _ (omega (arith, t .loop-test .taken)), omega arith)))
+    (at-begin (t .before) .pre .0, (F, F .inside _ (omega (arith, t .loop-test .taken))))
 
 add-looked : tie.Need-add-looked Inv-loop μ-loop
-add-looked c = let t = in-loop (after-visit c) in omega (arith, few (t .before), t .loop-test .taken)
+add-looked c = let t = in-loop (after-around c) in omega (arith, few (t .before), t .loop-test .taken)
 
 loop-less : tie.Need-loop-less Inv-loop μ-loop
-loop-less c = let t = in-loop (after-visit c) in omega (arith, few (t .before), t .loop-test .taken)
+loop-less c = let t = in-loop (after-around c) in omega (arith, few (t .before), t .loop-test .taken)
 
 loop-again : tie.Need-loop-again Inv-loop μ-loop
 loop-again c =
-    let r = after-visit c in
+    let r = after-around c in
     let t = in-loop r in
     let i = t .before .loop .inv in
-    let same = r .visit .kept .1 .1 .1 in
-    (going-on (i .0) (omega (arith, t .loop-test .taken)) (r .visit .ensures), same .0 ∙ i .1, same .1 .0 ∙ i .2)
+    let same = r .around .kept .1 .1 .1 in
+    (going-on (i .0) (omega (arith, t .loop-test .taken)) (r .around .ensures .0) (r .around .ensures .1), same .0 ∙ i .1, same .1 .0 ∙ i .2)
 
 same-length : tie.Need-same-length Inv-loop μ-loop
 same-length c = c .before .loop .inv .1 ∙ after-mark (c .before .before) .mark .kept .0
@@ -101,11 +98,10 @@ fill-spec =
     spot-of-requires
     mark-requires
     loop-holds
-    mul-loop
     mul-x
     slice-read-x
     cast-x
-    visit-requires
+    around-requires
     add-looked
     loop-less
     loop-again

@@ -66,7 +66,7 @@ shared-slice-read-if1 : tie.Need-shared-slice-read-if1
 shared-slice-read-if1 c = omega (arith, in-plan (at-first (c .before) .pre .1 .1 .0), at-first (c .before) .pre .0 .sized)
 
 returns : tie.Need-returns
-returns c = nothing-new (at-first (c .before .before) .pre .1 .0) (λ n. absurd (n (c .if1 .taken)))
+returns c = (nothing-new (at-first (c .before .before) .pre .1 .0), λ n. absurd (n (c .if1 .taken)))
 
 moved-requires : tie.Need-moved-requires
 moved-requires c κs = let p = at-start c .pre in move-asks (p .0) (in-plan (p .1 .1 .0)) (stands c) (p .1 .1 .1) (stays c)
@@ -78,7 +78,7 @@ same-length : tie.Need-same-length
 same-length c = search needs
 
 returns-2 : tie.Need-returns-2
-returns-2 c = let m = after-moved (c .before) in nothing-new (at-start (m .before) .pre .1 .0) (λ _. c .before .is-marked .ensures _ _ (to-at m) .so (c .if2 .taken))
+returns-2 c = let m = after-moved (c .before) in (nothing-new (at-start (m .before) .pre .1 .0), λ _. c .before .is-marked .ensures _ _ (to-at m) .so (c .if2 .taken))
 
 mark-requires : tie.Need-mark-requires
 mark-requires c κs =
