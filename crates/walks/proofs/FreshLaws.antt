@@ -1,23 +1,21 @@
 -- A fresh start and the loop on lent tables give the least cost between two cells (Fresh of `method`).
 use mathlib.Core.Path.{_≡_, sym, ap, subst, _∙_}
 use mathlib.Core.Bool.{Bool}
-use mathlib.Core.Logic.{_≢_}
 use mathlib.Core.List.{List}
 use Prim.Native.Nat.{ℕ, _-_, _*_, _≤_, _<_}
 use native.Mathlib.Omega.{arith}
-use lib.ListN.{length, getD, take, drop}
+use lib.ListN.{length, take, drop}
 use lib.Seq.{length-take-le}
 use Rattle.decide.proofs.ChooseLaws.{choose-is}
-use Rattle.method.specs.Numbers.{infinite, growth}
 use Rattle.method.specs.Graph.{Graph, GraphLaws}
 use Rattle.method.specs.Tables as method
 use Rattle.method.specs.Loop.{run}
 use Rattle.method.specs.Session.{huntOf, opened}
 use Rattle.method.specs.During.{During}
 use Rattle.method.proofs.Readying.{fresh-sized}
-use Rattle.method.proofs.Fresh.{freshRun, freshRhs, fresh-during, fresh-ran, fresh-none, fresh-cheapest, fresh-above, fresh-small}
-use Rattle.plan.specs.Cells.{Stands}
-use Rattle.plan.specs.Costs.{planOf, Obeys}
+use Rattle.method.proofs.Fresh.{freshRun, fresh-during, fresh-ran, fresh-none, fresh-cheapest, fresh-above, fresh-small}
+use Rattle.plan.specs.Cells.{Size, Stands}
+use Rattle.plan.specs.Costs.{Plan, planOf, cells, Obeys}
 use Rattle.plan.specs.Grid.{graphOf}
 use Rattle.plan.proofs.GridLaws.{graph-laws}
 use Rattle.plan.proofs.MoveLaws.{area}
@@ -37,6 +35,26 @@ part n l = take (n - 0) (drop 0 l)
 
 pub part-long : (l : List ℕ) (n : ℕ) → n ≤ length l → length (part n l) ≡ n
 part-long l n h = let e : n - 0 ≡ n = omega arith in ap (λ k. length (take k l)) e ∙ length-take-le n l h
+
+-- ---- on the definitions
+
+-- The rhs that a run from a fresh start between two cells leaves.
+abbrev pub rhsFresh : Plan → ℕ → ℕ → List ℕ
+rhsFresh p a b = freshRun (graphOf p) a b .tables .rhs
+
+module _ (p : Plan) (z : Size (p .width) (p .height)) {a b : ℕ} (a-in : a < cells p) (b-in : b < cells p) where
+  pub fresh-readable : Readable (rhsFresh p a b) a b
+  fresh-readable =
+      let L = graph-laws p z in
+      let long : length (rhsFresh p a b) ≡ cells p = fresh-ran L a-in b-in .sized .rhs in
+      record { a-in = omega (arith, long, a-in); b-in = omega (arith, long, b-in); above = fresh-above L a-in b-in }
+
+  -- It has the least cost.
+  pub least-fresh : LeastCost p a b (costIn (rhsFresh p a b) a b)
+  unfolding costIn
+  least-fresh =
+      let L = graph-laws p z in
+      choose-is (LeastCost p a b) _ (λ i. none-leads (fresh-none L a-in b-in i)) (λ n. costs (omega (arith, fresh-small L a-in b-in n)) (fresh-cheapest L a-in b-in n))
 
 -- ---- the run
 
@@ -96,30 +114,8 @@ module _ {width height from to : ℕ} {plan : List ℕ} (O : Obeys (planOf width
           subst (λ x. Finished x (3 * (height * width)) (r .count) t₁ t₂ n steps over) aim-is F .tables .is
           ∙ ap (λ T. run (huntOf G (opened from to)) (3 * (height * width)) T .tables) (P .is)
 
-      rhs-is : (s : ℕ) → getD rhs₂ s 0 ≡ freshRhs (graphOf (planOf width height plan)) from to s
-      rhs-is s = ap (λ T. method.rhsAt T s) ran-is
-
-      finite : getD rhs₂ to 0 ≢ infinite → freshRhs (graphOf (planOf width height plan)) from to to ≢ infinite
-      finite n i = n (rhs-is to ∙ i)
-
       pub readable : Readable rhs₂ from to
-      readable =
-          let long : length rhs₂ ≡ height * width = ap (λ (T : method.Tables). length (T .rhs)) ran-is ∙ fresh-ran laws from-in to-in .sized .rhs in
-          record {
-            a-in = omega (arith, long, from-in);
-            b-in = omega (arith, long, to-in);
-            above = λ n. omega (arith, rhs-is from, rhs-is to, fresh-above laws from-in to-in (finite n));
-          }
+      readable = subst (λ (T : method.Tables). Readable (T .rhs) from to) (sym ran-is) (fresh-readable (planOf width height plan) (O .size) from-in to-in)
 
-      -- The least cost.
       pub least-in : LeastCost (planOf width height plan) from to (costIn rhs₂ from to)
-      unfolding costIn
-      least-in = choose-is (LeastCost (planOf width height plan) from to) _ none-there cost
-        where
-          none-there : getD rhs₂ to 0 ≡ infinite → LeastCost (planOf width height plan) from to infinite
-          none-there i = none-leads (fresh-none laws from-in to-in (sym (rhs-is to) ∙ i))
-
-          cost : getD rhs₂ to 0 ≢ infinite → LeastCost (planOf width height plan) from to (getD rhs₂ to 0 - getD rhs₂ from 0)
-          cost n =
-              let small : getD rhs₂ to 0 - getD rhs₂ from 0 ≤ growth = omega (arith, rhs-is to, fresh-small laws from-in to-in (finite n)) in
-              costs small (rw (sym (rhs-is to), sym (rhs-is from)) at (fresh-cheapest laws from-in to-in (finite n)))
+      least-in = subst (λ (T : method.Tables). LeastCost (planOf width height plan) from to (costIn (T .rhs) from to)) (sym ran-is) (least-fresh (planOf width height plan) (O .size) from-in to-in)

@@ -3,3 +3,4 @@ pub mod AlongTheorems
 pub mod FreshLaws
 pub mod ThroughLaws
 pub mod ThroughTheorems
+pub mod CaseLaws
