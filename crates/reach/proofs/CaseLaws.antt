@@ -1,23 +1,25 @@
 -- Small plans by computation: a test that gives a part, and what the call answers on four plans.
-use mathlib.Core.Path.{_≡_, sym, ap, subst, _∙_}
+use mathlib.Core.Path.{_≡_, refl, sym, ap, subst, _∙_}
 use mathlib.Core.Bool.{Bool, true, false, not, _&&_, _||_}
-use mathlib.Core.Logic.{_≢_}
+use mathlib.Core.Logic.{_≢_, Dec·and}
 use mathlib.Core.List.{List, [], _∷_}
-use Prim.Native.Nat.{ℕ, zero, suc, _^_, _<_}
-use native.Mathlib.Decide.{ℕ-discrete}
+use Prim.Native.Nat.{ℕ, zero, suc, _*_, _/_, _%_, _^_, _≤_, _<_}
+use native.Mathlib.Decide.{ℕ-discrete, decLt}
 use native.Mathlib.Omega.{arith}
 use lib.Dec.{T, ltb, eqb, ltb→lt, eqb→eq, eqb-refl, T-not}
 use lib.Count.{ones}
 use lib.ListN.{getD}
 use Rattle.plan.specs.Directions.{shifts}
-use Rattle.plan.specs.Cells.{entered}
+use Rattle.plan.specs.Cells.{Stays, stays, entered}
 use Rattle.plan.specs.Costs.{Plan, planOf, cells, byte, shut, Obeys}
 use Rattle.reach.specs.Bits.{bit, bitOf, Marked, onesOf, sumTo}
 use Rattle.reach.specs.Reachable.{Reachable, Part}
+use Rattle.reach.specs.Outs.{LeadsOut, Listed, Outs}
 use Rattle.reach.specs.Promise.{reachTold, Reports}
 use Rattle.reach.specs.declared.Reaching.{Reaching}
 use Rattle.reach.proofs.BitLaws.{sum-same}
 use Rattle.reach.proofs.FillLaws.{reach-self, reach-join, reach-one, closed-holds}
+use Rattle.reach.proofs.OutLaws.{one-outs, outs-as}
 use Rattle.reach.proofs.ReportLaws.{plan-granted}
 use Rattle.reach.proofs.Theorems.{one-part}
 
@@ -79,11 +81,11 @@ module _ (p : Plan) (h : ℕ) (rows : List ℕ) (way : ℕ → List ℕ) where
   abbrev led : ℕ → Bool
   led s = not (marks s) || (opens p h (way s) && eqb (goes p h (way s)) s)
 
-  abbrev stays : ℕ → ℕ → Bool
-  stays s d = eqb (byte p s d) 255 || marks (entered (p .width) s d)
+  abbrev ends : ℕ → ℕ → Bool
+  ends s d = eqb (byte p s d) 255 || marks (entered (p .width) s d)
 
   -- The hunter's cell is marked, the rows are narrow, `way` leads to each marked cell by open moves, and no open move leads from one to a cell that is not.
-  part-by : T (marks h) → T (all fits (p .height)) → T (all led (cells p)) → T (all (λ s. not (marks s) || all (stays s) 4) (cells p)) → Obeys p → Part p h rows
+  part-by : T (marks h) → T (all fits (p .height)) → T (all led (cells p)) → T (all (λ s. not (marks s) || all (ends s) 4) (cells p)) → Obeys p → Part p h rows
   part-by own narrow reached closed O = record {
     so = λ s l m. so s (both (opens p h (way s)) (eqb (goes p h (way s)) s) (if-marked s m (opens p h (way s) && eqb (goes p h (way s)) s) (all-at led (cells p) reached s l)));
     whenever = λ s l R. closed-holds p O rows holds (R .chain) (eqb→eq (bitOf (p .width) rows h) 1 own);
@@ -98,48 +100,144 @@ module _ (p : Plan) (h : ℕ) (rows : List ℕ) (way : ℕ → List ℕ) where
 
       holds : (s d : ℕ) → s < cells p → d < 4 → Marked (p .width) rows s → byte p s d ≢ shut → Marked (p .width) rows (entered (p .width) s d)
       holds s d l ld m n =
-          let t = all-at (stays s) 4 (if-marked s m (all (stays s) 4) (all-at (λ s. not (marks s) || all (stays s) 4) (cells p) closed s l)) d ld in
+          let t = all-at (ends s) 4 (if-marked s m (all (ends s) 4) (all-at (λ s. not (marks s) || all (ends s) 4) (cells p) closed s l)) d ld in
           eqb→eq (bitOf (p .width) rows (entered (p .width) s d)) 1 (other (eqb (byte p s d) 255) (marks (entered (p .width) s d)) t (λ u. n (eqb→eq (byte p s d) 255 u)))
 
--- What is answered where nothing is refused, once the part is known.
-answers : {width height hunter : ℕ} {plan rows moves rows′ moves′ : List ℕ} {r : Reaching} (known : List ℕ) → (Obeys (planOf width height plan) → Part (planOf width height plan) hunter known)
-    → Reports width height hunter plan rows moves r rows′ moves′ → reachTold r .refusal ≡ 0 → (reachTold r .cells ≡ onesOf known height) × ((i : ℕ) → i < height → getD rows′ i 0 ≡ getD known i 0)
-answers {width} {height} {plan = plan} {rows′ = rows′} known part P e =
+-- ---- the moves that lead out, by tests
+
+unfoldable isYes : {P : Type 0} → Dec P → Bool
+isYes (yes _) = true
+isYes (no _) = false
+
+yes-is : {P : Type 0} (d : Dec P) → T (isYes d) → P
+unfolding isYes
+yes-is (yes a) t = a
+yes-is (no n) t = absurd t
+
+is-yes : {P : Type 0} (d : Dec P) → P → T (isYes d)
+unfolding isYes
+is-yes (yes a) b = tt
+is-yes (no n) b = absurd (n b)
+
+unfoldable leadsOut : (p : Plan) (rows : List ℕ) (s d : ℕ) → Dec (LeadsOut p (Marked (p .width) rows) s d)
+leadsOut p rows s d =
+    at (ℕ-discrete (bitOf (p .width) rows s) 1) (stays (p .width) (p .height) s d) (ℕ-discrete (byte p s d) shut) (ℕ-discrete (bitOf (p .width) rows (entered (p .width) s d)) 1)
+  where
+    at : Dec (Marked (p .width) rows s) → Dec (Stays (p .width) (p .height) s d) → Dec (byte p s d ≡ shut) → Dec (Marked (p .width) rows (entered (p .width) s d))
+        → Dec (LeadsOut p (Marked (p .width) rows) s d)
+    at (yes i) (yes m) (yes e) (no n) = yes (record { within = i; stays-in = m; is-shut = e; leaves = n })
+    at (no n) m e i = no (λ o. n (o .within))
+    at (yes i) (no n) e j = no (λ o. n (o .stays-in))
+    at (yes i) (yes m) (no n) j = no (λ o. n (o .is-shut))
+    at (yes i) (yes m) (yes e) (yes j) = no (λ o. o .leaves j)
+
+module _ (p : Plan) (rows list : List ℕ) (count : ℕ) (where-is : ℕ → ℕ) where
+  abbrev out : ℕ → Bool
+  out x = isYes (leadsOut p rows (x / 4) (x % 4))
+
+  abbrev right : ℕ → Bool
+  right i = ltb (getD list i 0) (4 * cells p) && out (getD list i 0)
+
+  abbrev there : ℕ → Bool
+  there x = not (out x) || (ltb (where-is x) count && eqb (getD list (where-is x) 0) x)
+
+  abbrev rises : ℕ → Bool
+  rises j = all (λ i. ltb (getD list i 0) (getD list j 0)) j
+
+  -- Each listed place is one that leads out, each such place is listed where `where-is` says, and the places rise.
+  outs-by : count ≤ 4 * cells p → T (all right count) → T (all there (4 * cells p)) → T (all rises count) → Outs p (Marked (p .width) rows) list count (4 * cells p)
+  outs-by few each every rising = record {
+    few = few;
+    below = λ i l. ltb→lt (getD list i 0) (4 * cells p) (each-at i l .0);
+    each = λ i l. yes-is (leadsOut p rows (getD list i 0 / 4) (getD list i 0 % 4)) (each-at i l .1);
+    all = λ x l o. listed x (both (ltb (where-is x) count) (eqb (getD list (where-is x) 0) x) (other (not (out x)) (ltb (where-is x) count && eqb (getD list (where-is x) 0) x)
+        (all-at there (4 * cells p) every x l) (λ n. T-not (out x) n (is-yes (leadsOut p rows (x / 4) (x % 4)) o))));
+    ordered = λ i j l m. ltb→lt (getD list i 0) (getD list j 0) (all-at (λ i. ltb (getD list i 0) (getD list j 0)) j (all-at rises count rising j m) i l);
+  }
+    where
+      each-at : (i : ℕ) → i < count → T (ltb (getD list i 0) (4 * cells p)) × T (out (getD list i 0))
+      each-at i l = both (ltb (getD list i 0) (4 * cells p)) (out (getD list i 0)) (all-at right count each i l)
+
+      listed : (x : ℕ) → T (ltb (where-is x) count) × T (eqb (getD list (where-is x) 0) x) → Listed list count x
+      listed x b = record { place = where-is x; low = ltb→lt (where-is x) count (b .0); is = eqb→eq (getD list (where-is x) 0) x (b .1) }
+
+-- ---- what is answered
+
+-- The rows of a plan and a hunter, and the moves that lead out.
+record Known (p : Plan) (h : ℕ) (rows moves : List ℕ) (count : ℕ) : Type 0 where
+  part : Obeys p → Part p h rows
+  outs : Outs p (Marked (p .width) rows) moves count (4 * cells p)
+
+-- What is told and written where nothing is refused.
+record Answers (r : Reaching) (height : ℕ) (known list : List ℕ) (count : ℕ) (rows′ moves′ : List ℕ) : Type 0 where
+  cells-told : reachTold r .cells ≡ onesOf known height
+  moves-told : reachTold r .moves ≡ count
+  row : (i : ℕ) → i < height → getD rows′ i 0 ≡ getD known i 0
+  move : (i : ℕ) → i < count → getD moves′ i 0 ≡ getD list i 0
+
+answers : {width height hunter : ℕ} {plan known list : List ℕ} {count : ℕ} → Known (planOf width height plan) hunter known list count
+    → {rows moves rows′ moves′ : List ℕ} {r : Reaching} → Reports width height hunter plan rows moves r rows′ moves′ → reachTold r .refusal ≡ 0 → Answers r height known list count rows′ moves′
+answers {height = height} {plan = plan} {known = known} {list = list} K {rows′ = rows′} P e =
     let z = sym (P .answer) ∙ e in
     let W = P .done z in
-    let same = one-part (W .part) (part (plan-granted {plan = plan} (P .rules) z .0 .0)) in
-    (W .counted ∙ sum-same (λ r. ones (getD rows′ r 0)) (λ r. ones (getD known r 0)) height (λ i l. ap ones (same i l)), same)
+    let O = plan-granted {plan = plan} (P .rules) z .0 .0 in
+    let part = K .part O in
+    let same = one-part (W .part) part in
+    let outs = one-outs (outs-as list O (part .so) (part .whenever) (λ i l. refl) (K .outs)) (W .outs) in
+    record {
+      cells-told = W .counted ∙ sum-same (λ r. ones (getD rows′ r 0)) (λ r. ones (getD known r 0)) height (λ i l. ap ones (same i l));
+      moves-told = sym (outs .0);
+      row = same;
+      move = λ i l. sym (outs .1 i l);
+    }
 
 -- ---- the plans
 
--- One cell.
-pub one-cell : {rows moves rows′ moves′ : List ℕ} {r : Reaching} → Reports 1 1 0 (255 ∷ 255 ∷ 255 ∷ 255 ∷ []) rows moves r rows′ moves′ → reachTold r .refusal ≡ 0
-    → (reachTold r .cells ≡ 1) × (getD rows′ 0 0 ≡ 1)
-unfolding ones sumTo bit bitOf all goes opens shifts
-one-cell P e = let a = answers (1 ∷ []) (part-by (planOf 1 1 (255 ∷ 255 ∷ 255 ∷ 255 ∷ [])) 0 (1 ∷ []) (λ s. []) tt tt tt tt) P e in (a .0, a .1 0 (omega arith))
+-- One cell: nothing leads out.
+abbrev single : List ℕ
+single = 255 ∷ 255 ∷ 255 ∷ 255 ∷ []
 
--- Two cells beside each other and a door that opens to the east only: from the west both are reached ..
+singleKnown : Known (planOf 1 1 single) 0 (1 ∷ []) [] 0
+unfolding bit bitOf all goes opens shifts isYes leadsOut stays ℕ-discrete decLt Dec·and
+singleKnown = record { part = part-by _ _ _ (λ s. []) tt tt tt tt; outs = outs-by _ (1 ∷ []) _ _ (λ x. 0) (omega arith) tt tt tt }
+
+pub one-cell : {rows moves rows′ moves′ : List ℕ} {r : Reaching} → Reports 1 1 0 single rows moves r rows′ moves′ → reachTold r .refusal ≡ 0
+    → (reachTold r .cells ≡ 1) × (reachTold r .moves ≡ 0) × (getD rows′ 0 0 ≡ 1)
+unfolding ones sumTo
+one-cell P e = let a = answers singleKnown P e in (a .cells-told, a .moves-told, a .row 0 (omega arith))
+
+-- Two cells beside each other, and a door that opens to the east only. From the west both are reached ..
 abbrev oneWay : List ℕ
 oneWay = 255 ∷ 1 ∷ 255 ∷ 255 ∷ 255 ∷ 255 ∷ 255 ∷ 255 ∷ []
 
+westKnown : Known (planOf 2 1 oneWay) 0 (3 ∷ []) [] 0
+unfolding bit bitOf all goes opens shifts isYes leadsOut stays ℕ-discrete decLt Dec·and
+westKnown = record { part = part-by _ _ _ (λ s. getD ([] ∷ (1 ∷ []) ∷ []) s []) tt tt tt tt; outs = outs-by _ (3 ∷ []) _ _ (λ x. 0) (omega arith) tt tt tt }
+
 pub from-west : {rows moves rows′ moves′ : List ℕ} {r : Reaching} → Reports 2 1 0 oneWay rows moves r rows′ moves′ → reachTold r .refusal ≡ 0
-    → (reachTold r .cells ≡ 2) × (getD rows′ 0 0 ≡ 3)
-unfolding ones sumTo bit bitOf all goes opens shifts
-from-west P e = let a = answers (3 ∷ []) (part-by (planOf 2 1 oneWay) 0 (3 ∷ []) (λ s. getD ([] ∷ (1 ∷ []) ∷ []) s []) tt tt tt tt) P e in (a .0, a .1 0 (omega arith))
+    → (reachTold r .cells ≡ 2) × (reachTold r .moves ≡ 0) × (getD rows′ 0 0 ≡ 3)
+unfolding ones sumTo
+from-west P e = let a = answers westKnown P e in (a .cells-told, a .moves-told, a .row 0 (omega arith))
 
--- .. and from the east the eastern one alone, column 1.
+-- .. and from the east the eastern one alone, column 1; its move to the west, 4 × 1 + 3, leads out.
+eastKnown : Known (planOf 2 1 oneWay) 1 (2 ∷ []) (7 ∷ []) 1
+unfolding bit bitOf all goes opens shifts isYes leadsOut stays ℕ-discrete decLt Dec·and
+eastKnown = record { part = part-by _ _ _ (λ s. []) tt tt tt tt; outs = outs-by _ (2 ∷ []) _ _ (λ x. 0) (omega arith) tt tt tt }
+
 pub from-east : {rows moves rows′ moves′ : List ℕ} {r : Reaching} → Reports 2 1 1 oneWay rows moves r rows′ moves′ → reachTold r .refusal ≡ 0
-    → (reachTold r .cells ≡ 1) × (getD rows′ 0 0 ≡ 2)
-unfolding ones sumTo bit bitOf all goes opens shifts
-from-east P e = let a = answers (2 ∷ []) (part-by (planOf 2 1 oneWay) 1 (2 ∷ []) (λ s. []) tt tt tt tt) P e in (a .0, a .1 0 (omega arith))
+    → (reachTold r .cells ≡ 1) × (reachTold r .moves ≡ 1) × (getD rows′ 0 0 ≡ 2) × (getD moves′ 0 0 ≡ 7)
+unfolding ones sumTo
+from-east P e = let a = answers eastKnown P e in (a .cells-told, a .moves-told, a .row 0 (omega arith), a .move 0 (omega arith))
 
--- Two rows of two: south and then east from cell 0, the rest is shut. Cell 1 is not reached.
+-- Two rows of two: open are south from cell 0 and then east from cell 2. Cell 1 is not reached: east from cell 0 and north from cell 3 lead out.
 abbrev corner : List ℕ
 corner = 255 ∷ 255 ∷ 5 ∷ 255 ∷ 255 ∷ 255 ∷ 255 ∷ 255 ∷ 255 ∷ 7 ∷ 255 ∷ 255 ∷ 255 ∷ 255 ∷ 255 ∷ 255 ∷ []
 
+cornerKnown : Known (planOf 2 2 corner) 0 (1 ∷ 3 ∷ []) (1 ∷ 12 ∷ []) 2
+unfolding bit bitOf all goes opens shifts isYes leadsOut stays ℕ-discrete decLt Dec·and
+cornerKnown = record { part = part-by _ _ _ (λ s. getD ([] ∷ [] ∷ (2 ∷ []) ∷ (2 ∷ 1 ∷ []) ∷ []) s []) tt tt tt tt; outs = outs-by _ (1 ∷ 3 ∷ []) _ _ (λ x. x / 12) (omega arith) tt tt tt }
+
 pub round-the-corner : {rows moves rows′ moves′ : List ℕ} {r : Reaching} → Reports 2 2 0 corner rows moves r rows′ moves′ → reachTold r .refusal ≡ 0
-    → (reachTold r .cells ≡ 3) × (getD rows′ 0 0 ≡ 1) × (getD rows′ 1 0 ≡ 3)
-unfolding ones sumTo bit bitOf all goes opens shifts
-round-the-corner P e =
-    let a = answers (1 ∷ 3 ∷ []) (part-by (planOf 2 2 corner) 0 (1 ∷ 3 ∷ []) (λ s. getD ([] ∷ [] ∷ (2 ∷ []) ∷ (2 ∷ 1 ∷ []) ∷ []) s []) tt tt tt tt) P e in
-    (a .0, a .1 0 (omega arith), a .1 1 (omega arith))
+    → ((reachTold r .cells ≡ 3) × (reachTold r .moves ≡ 2)) × ((getD rows′ 0 0 ≡ 1) × (getD rows′ 1 0 ≡ 3)) × ((getD moves′ 0 0 ≡ 1) × (getD moves′ 1 0 ≡ 12))
+unfolding ones sumTo
+round-the-corner P e = let a = answers cornerKnown P e in ((a .cells-told, a .moves-told), (a .row 0 (omega arith), a .row 1 (omega arith)), (a .move 0 (omega arith), a .move 1 (omega arith)))

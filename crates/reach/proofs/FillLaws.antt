@@ -72,6 +72,7 @@ module _ (p : Plan) (O : Obeys p) where
 
 -- ---- a cell as the list has it
 
+-- The cell of a row and a column, as the list has it; a cell comes back from how it is written, and is one of the plan.
 cell-by : (w r c : ℕ) → c < 64 → cellBy w (64 * r + c) ≡ r * w + c
 cell-by w r c l =
     let q : (64 * r + c) / 64 ≡ r = omega arith in
@@ -251,6 +252,7 @@ module _ {p : Plan} (O : Obeys p) {rows list : List ℕ} {count : ℕ} (F : Fill
 
 -- ---- one look after the other
 
+-- What two looks add, and what was looked at stays so.
 pub grown-on : {p : Plan} {x : ℕ} {r₁ l₁ : List ℕ} {n₁ : ℕ} {r₂ l₂ : List ℕ} {n₂ : ℕ} {r₃ l₃ : List ℕ} {n₃ : ℕ}
     → Grown p x r₁ l₁ n₁ r₂ l₂ n₂ → Grown p x r₂ l₂ n₂ r₃ l₃ n₃ → Grown p x r₁ l₁ n₁ r₃ l₃ n₃
 grown-on {p} {x} {l₂ = l₂} {n₂ = n₂} {l₃ = l₃} {n₃ = n₃} A B = record {

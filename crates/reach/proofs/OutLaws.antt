@@ -115,12 +115,18 @@ module _ {p : Plan} {In : ℕ → Type 0} where
         at (suc x) e = let lt : x < k = omega arith in omega (arith, later x lt, found x lt .low)
 
     -- and the one at a number is no greater
-    pub at-most : (i : ℕ) → i < k → getD m i 0 ≤ getD l i 0
+    at-most : (i : ℕ) → i < k → getD m i 0 ≤ getD l i 0
     at-most i lt = at (ℕ-discrete i (found i lt .place))
       where
         at : Dec (i ≡ found i lt .place) → getD m i 0 ≤ getD l i 0
         at (yes e) = omega (arith, ap (λ x. getD m x 0) e, found i lt .is)
         at (no e) = omega (arith, B .ordered i (found i lt .place) (omega (arith, later i lt)) (found i lt .low), found i lt .is)
+
+-- So a part has one list of them.
+pub one-outs : {p : Plan} {In : ℕ → Type 0} {l m : List ℕ} {k n z : ℕ} → Outs p In l k z → Outs p In m n z → (k ≡ n) × ((i : ℕ) → i < k → getD l i 0 ≡ getD m i 0)
+one-outs {k = k} {n = n} A B =
+    let e : k ≡ n = omega (arith, fewest A B, fewest B A) in
+    (e, λ i l. omega (arith, at-most A B i l, at-most B A i (omega (arith, e))))
 
 -- The same places in another list, for a part of the same cells.
 pub outs-as : {p : Plan} {In Is : ℕ → Type 0} {list : List ℕ} {count n : ℕ} (list′ : List ℕ) → Obeys p → ((s : ℕ) → s < cells p → In s → Is s) → ((s : ℕ) → s < cells p → Is s → In s)

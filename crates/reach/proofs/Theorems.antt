@@ -20,7 +20,7 @@ use Rattle.reach.specs.declared.Reaching.{Reaching}
 use Rattle.reach.specs.declared.Reaching.the-variants.{Reaches, Refused}
 use Rattle.reach.proofs.BitLaws.{same-bits, row-bit, bitOf-le, ones-cells, those}
 use Rattle.reach.proofs.FillLaws.{reach-self}
-use Rattle.reach.proofs.OutLaws.{fewest, at-most}
+use Rattle.reach.proofs.OutLaws.{one-outs}
 use Rattle.reach.proofs.ReportLaws.{plan-granted}
 
 -- ---- the part and what leads out of it
@@ -150,12 +150,10 @@ module _ {p : Plan} {h : ℕ} {rows moves : List ℕ} {t₁ t₂ : ReachTold} {r
   cells-same = A .counted ∙ ap (λ x. onesOf x (p .height)) rows-same ∙ sym (B .counted)
 
   count-same : t₁ .moves ≡ t₂ .moves
-  count-same = omega (arith, fewest (A .outs) (B .outs), fewest (B .outs) (A .outs))
+  count-same = one-outs (A .outs) (B .outs) .0
 
   moves-same : moves₁ ≡ moves₂
-  moves-same =
-      kept-same (A .moves-kept) (rw (← count-same) at (B .moves-kept)) (λ i l.
-      omega (arith, at-most (A .outs) (B .outs) i l, at-most (B .outs) (A .outs) i (omega (arith, count-same))))
+  moves-same = kept-same (A .moves-kept) (rw (← count-same) at (B .moves-kept)) (one-outs (A .outs) (B .outs) .1)
 
 -- Two results that the promise allows are equal: the answer, every row and every move.
 pub one-reach : {width height hunter : ℕ} {plan rows moves : List ℕ} {r₁ r₂ : Reaching} {rows₁ moves₁ rows₂ moves₂ : List ℕ}

@@ -37,7 +37,7 @@ fn mark(rows: &mut [u64], list: &mut [u16], count: usize, at: Spot) -> usize
     count + 1
 }
 
-// Looks at the move in direction d from a cell of the list: if it is open, the cell that it enters is marked.
+// Looks at the move in direction d from x, a cell of the list: if it is open, the cell that it enters is marked.
 fn visit(
     width: usize,
     height: usize,
@@ -66,7 +66,7 @@ fn visit(
     mark(rows, list, count, to)
 }
 
-// Looks at the four moves of a cell of the list.
+// Looks at the four moves of x, a cell of the list.
 fn around(
     width: usize,
     height: usize,
