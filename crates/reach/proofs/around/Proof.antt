@@ -16,8 +16,11 @@ abbrev μ-loop : tie.MeasureT-loop
 μ-loop width height plan rows₀ list₀ count x n₀ d₀ rows list n d = 4 - d
 
 -- The places that the answers look back to.
+abbrev at-first : tie.After-slice-known2 Inv-loop μ-loop → tie.Start Inv-loop μ-loop
+at-first c = c .before .before .before
+
 abbrev at-start : tie.At-loop Inv-loop μ-loop → tie.Start Inv-loop μ-loop
-at-start c = c .before .before .before .before
+at-start c = at-first (c .before)
 
 abbrev after-visit : tie.After-slice-known4 Inv-loop μ-loop → tie.After-visit Inv-loop μ-loop
 after-visit c = c .before .before .before .before
@@ -26,7 +29,7 @@ abbrev in-loop : tie.After-visit Inv-loop μ-loop → tie.In-loop Inv-loop μ-lo
 in-loop c = c .before .before .before
 
 loop-holds : tie.Need-loop-holds Inv-loop μ-loop
-loop-holds c = (omega arith, nothing-new (c .before .before .before .pre .1 .0), λ d l. absurd (omega arith), refl, refl)
+loop-holds c = (omega arith, nothing-new (at-first c .pre .1 .0), λ d l. absurd (omega arith), refl, refl)
 
 visit-requires : tie.Need-visit-requires Inv-loop μ-loop
 visit-requires c κs =

@@ -20,8 +20,14 @@ abbrev μ-loop : tie.MeasureT-loop
 abbrev after-mark : tie.After-slice-known4 Inv-loop μ-loop → tie.After-mark Inv-loop μ-loop
 after-mark c = c .before .before .before .before
 
+abbrev at-first : tie.After-slice-known2 Inv-loop μ-loop → tie.Start Inv-loop μ-loop
+at-first c = c .before .before .before
+
+abbrev after-spot : tie.After-mark Inv-loop μ-loop → tie.After-spot-of Inv-loop μ-loop
+after-spot c = c .before .before .before
+
 abbrev at-start : tie.After-mark Inv-loop μ-loop → tie.Start Inv-loop μ-loop
-at-start c = c .before .before .before .before .before .before .before
+at-start c = at-first (after-spot c .before)
 
 abbrev at-begin : tie.At-loop Inv-loop μ-loop → tie.Start Inv-loop μ-loop
 at-begin c = at-start (after-mark (c .before))
@@ -29,27 +35,30 @@ at-begin c = at-start (after-mark (c .before))
 abbrev after-around : tie.After-slice-known7 Inv-loop μ-loop → tie.After-around Inv-loop μ-loop
 after-around c = c .before .before .before .before
 
+abbrev for-around : tie.After-around-arg2 Inv-loop μ-loop → tie.In-loop Inv-loop μ-loop
+for-around c = c .before .before .before
+
 abbrev in-loop : tie.After-around Inv-loop μ-loop → tie.In-loop Inv-loop μ-loop
-in-loop c = c .before .before .before .before
+in-loop c = for-around (c .before)
 
 -- No more cells are listed than the plan has.
 few : (c : tie.At-loop Inv-loop μ-loop) → let s = at-begin c .args in (c .loop .count ≤ s .height * s .width) × (s .height * s .width ≤ 4096)
 few c = (going-le (c .loop .inv .0), area (at-begin c .pre .0 .size))
 
 spot-of-requires : tie.Need-spot-of-requires Inv-loop μ-loop
-spot-of-requires c κs = c .before .before .before .pre .0 .size .wide
+spot-of-requires c κs = at-first c .pre .0 .size .wide
 
 mark-requires : tie.Need-mark-requires Inv-loop μ-loop
 mark-requires c κs =
     let s = c .before .before in
-    let p = s .before .before .before .before .pre in
+    let p = at-first (s .before) .pre in
     first-asks (p .0) (p .1 .0) (p .1 .1) (s .spot-of .ensures)
 
 loop-holds : tie.Need-loop-holds Inv-loop μ-loop
 loop-holds c =
     let m = after-mark c in
     let p = at-start m .pre in
-    (going-first (p .0) (p .1 .0) (p .1 .1) (m .before .before .before .spot-of .ensures) (m .mark .ensures), refl, refl)
+    (going-first (p .0) (p .1 .0) (p .1 .1) (after-spot m .spot-of .ensures) (m .mark .ensures), refl, refl)
 
 mul-x : tie.Need-mul-x Inv-loop μ-loop
 mul-x c = omega (arith, few (c .before))
@@ -62,7 +71,7 @@ cast-x c = omega (arith, c .slice-known5 .given (c .before .before .loop .looked
 
 around-requires : tie.Need-around-requires Inv-loop μ-loop
 around-requires c κs =
-    let t = c .before .before .before in
+    let t = for-around c in
     let F = t .before .loop .inv .0 .filled in
     (at-begin (t .before) .pre .0, (F, F .inside _ (omega (arith, t .loop-test .taken))))
 

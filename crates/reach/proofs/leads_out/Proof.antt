@@ -16,8 +16,14 @@ use Rattle.reach.proofs.leads_out.Statement.{statement}
 use Rattle.reach.proofs.leads_out.Tie as tie
 
 -- The places that the answers look back to.
+abbrev at-first : tie.After-shared-slice-known3 → tie.Start
+at-first c = c .before .before .before
+
 abbrev at-start : tie.After-spot-of → tie.Start
-at-start c = c .before .before .before .before .before
+at-start c = at-first (c .before .before)
+
+abbrev after-marked : tie.Else3 → tie.After-is-marked
+after-marked c = c .before .before .before
 
 abbrev after-spot : tie.After-stays-in → tie.After-spot-of
 after-spot c = c .before .before .before
@@ -39,7 +45,7 @@ shared-slice-read-if1 : tie.Need-shared-slice-read-if1
 shared-slice-read-if1 c = search needs
 
 returns : tie.Need-returns
-returns c = decides-no (λ o. c .if1 .taken (its-byte (c .before .before .before .before) ∙ o .is-shut))
+returns c = decides-no (λ o. c .if1 .taken (its-byte (at-first (c .before)) ∙ o .is-shut))
 
 spot-of-requires : tie.Need-spot-of-requires
 spot-of-requires c κs = search needs
@@ -68,7 +74,7 @@ is-marked-requires-2 c κs =
 returns-4 : tie.Need-returns-4
 returns-4 c =
     let e = c .before .before in
-    let m = e .before .before .before in
+    let m = after-marked e in
     let a = m .before in
     let own = m .is-marked .ensures _ _ (a .spot-of .ensures) .so (not-false _ (e .before .before .if2 .left)) in
     leads own (stays e) (sym (its-byte (at-start a)) ∙ a .before .if1 .left) (c .is-marked2 .ensures _ _ (to-at (c .before)))

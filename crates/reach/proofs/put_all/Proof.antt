@@ -22,6 +22,9 @@ at-start c = c .before .before .before .before
 abbrev after-put : tie.After-slice-known2 Inv-loop μ-loop → tie.After-put-out Inv-loop μ-loop
 after-put c = c .before .before
 
+abbrev in-loop : tie.After-put-out Inv-loop μ-loop → tie.In-loop Inv-loop μ-loop
+in-loop c = c .before .before
+
 loop-holds : tie.Need-loop-holds Inv-loop μ-loop
 loop-holds c = (omega arith, outs-none _, refl)
 
@@ -29,13 +32,16 @@ put-out-requires : tie.Need-put-out-requires Inv-loop μ-loop
 put-out-requires c κs = let l = c .before .before in let p = at-start l .pre in (p .0, ((p .1 .0, omega (arith, c .before .loop-test .taken, p .0 .sized), omega (arith, p .1 .1, l .loop .inv .2)), l .loop .inv .1))
 
 add-place : tie.Need-add-place Inv-loop μ-loop
-add-place c = omega (arith, after-put c .before .before .loop-test .taken)
+add-place c = omega (arith, in-loop (after-put c) .loop-test .taken)
 
 loop-less : tie.Need-loop-less Inv-loop μ-loop
-loop-less c = omega (arith, after-put c .before .before .loop-test .taken)
+loop-less c = omega (arith, in-loop (after-put c) .loop-test .taken)
 
 loop-again : tie.Need-loop-again Inv-loop μ-loop
-loop-again c = let r = after-put c in let l = r .before .before .before in (omega (arith, r .before .before .loop-test .taken), r .put-out .ensures, r .put-out .kept .1 .1 .1 .1 .0 ∙ l .loop .inv .2)
+loop-again c =
+    let r = after-put c in
+    let t = in-loop r in
+    (omega (arith, t .loop-test .taken), r .put-out .ensures, r .put-out .kept .1 .1 .1 .1 .0 ∙ t .before .loop .inv .2)
 
 same-length : tie.Need-same-length Inv-loop μ-loop
 same-length c = c .before .loop .inv .2

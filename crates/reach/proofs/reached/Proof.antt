@@ -6,6 +6,10 @@ use Rattle.reach.proofs.ReportLaws.{reports-number, plan-granted, zeros
 use Rattle.reach.proofs.reached.Statement.{statement}
 use Rattle.reach.proofs.reached.Tie as tie
 
+-- The place that the answers look back to.
+abbrev accepted : tie.After-report-arg2 → tie.Else1
+accepted c = c .before .before .before .before .before
+
 refusal-requires : tie.Need-refusal-requires
 refusal-requires c κs = search needs
 
@@ -23,7 +27,7 @@ slice-aggregate-report-3 c = search needs
 
 report-requires : tie.Need-report-requires
 report-requires c κs =
-    let e = c .before .before .before .before .before in
+    let e = accepted c in
     let g = plan-granted (e .before .refusal .ensures) (e .if1 .left) .0 in
     let z = g .0 .size in
     (g .0, (g .1, (record { rowed = omega (arith, z .low); room = omega (arith, area z); none = zeros 64 }, omega (arith, area z))))

@@ -20,11 +20,14 @@ at-start c = c .before .before .before
 abbrev size-right : tie.Else3 → tie.Else1
 size-right c = c .before .before
 
+abbrev cell-right : tie.Else4 → tie.Else3
+cell-right c = c .before .before
+
 -- The size and the edges, once they were asked for.
 size-holds : (c : tie.Else1) → Size (at-start c .args .width) (at-start c .args .height)
 size-holds c = c .before .is-size .ensures .so (not-false _ (c .if1 .left))
 
-edges-right : (c : tie.Else4) → let s = at-start (size-right (c .before .before)) .args in Edges (planOf (s .width) (s .height) (s .plan .now))
+edges-right : (c : tie.Else4) → let s = at-start (size-right (cell-right c)) .args in Edges (planOf (s .width) (s .height) (s .plan .now))
 edges-right c = c .before .edges-hold .ensures .so (not-false _ (c .if4 .left))
 
 -- The rules of the size, the length and the cell hold, once they were asked for: those after them give the number.
@@ -60,10 +63,10 @@ bytes-hold-requires : tie.Need-bytes-hold-requires
 bytes-hold-requires c κs = search needs
 
 returns-5 : tie.Need-returns-5
-returns-5 c = inside (c .before .before .before .before) (holds (edges-right (c .before .before)) (fails (refuted (c .before .bytes-hold .ensures) (not-true _ (c .if5 .taken)))))
+returns-5 c = inside (cell-right (c .before .before)) (holds (edges-right (c .before .before)) (fails (refuted (c .before .bytes-hold .ensures) (not-true _ (c .if5 .taken)))))
 
 returns-6 : tie.Need-returns-6
-returns-6 c = inside (c .before .before .before .before) (holds (edges-right (c .before .before)) (holds (c .before .bytes-hold .ensures .so (not-false _ (c .if5 .left))) passed))
+returns-6 c = inside (cell-right (c .before .before)) (holds (edges-right (c .before .before)) (holds (c .before .bytes-hold .ensures .so (not-false _ (c .if5 .left))) passed))
 
 pub refusal-spec : {M : Type 1} → statement M
 refusal-spec =

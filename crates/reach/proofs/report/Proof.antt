@@ -6,8 +6,11 @@ use Rattle.reach.proofs.report.Statement.{statement}
 use Rattle.reach.proofs.report.Tie as tie
 
 -- The places that the answers look back to.
+abbrev at-first : tie.After-slice-known5 → tie.Start
+at-first c = c .before .before .before .before .before .before
+
 abbrev at-start : tie.Else1 → tie.Start
-at-start c = c .before .before .before .before .before .before .before
+at-start c = at-first (c .before)
 
 abbrev enough-rows : tie.After-fill → tie.Else1
 enough-rows c = c .before .before .before
@@ -15,8 +18,11 @@ enough-rows c = c .before .before .before
 abbrev after-fill : tie.After-put-all → tie.After-fill
 after-fill c = c .before .before .before .before .before .before .before
 
+abbrev after-put-all : tie.After-slice-known8 → tie.After-put-all
+after-put-all c = c .before .before
+
 abbrev after-put : tie.Else2 → tie.After-put-all
-after-put c = c .before .before .before
+after-put c = after-put-all (c .before)
 
 abbrev enough-moves : tie.After-copy-rows → tie.Else2
 enough-moves c = c .before .before .before
@@ -24,11 +30,14 @@ enough-moves c = c .before .before .before
 abbrev after-rows : tie.After-copy-moves → tie.After-copy-rows
 after-rows c = c .before .before .before .before .before
 
+abbrev for-count : tie.After-count-of-arg → tie.After-copy-moves
+for-count c = c .before .before .before
+
 abbrev after-moves : tie.After-count-of → tie.After-copy-moves
-after-moves c = c .before .before .before .before
+after-moves c = for-count (c .before)
 
 returns : tie.Need-returns
-returns c = let p = c .before .before .before .before .before .before .before .pre in few-rows _ _ (p .0) (p .1 .0) (c .if1 .taken)
+returns c = let p = at-first (c .before) .pre in few-rows _ _ (p .0) (p .1 .0) (c .if1 .taken)
 
 fill-requires : tie.Need-fill-requires
 fill-requires c κs = search needs
@@ -47,7 +56,7 @@ same-length-3 c = search needs
 
 returns-2 : tie.Need-returns-2
 returns-2 c =
-    let a = c .before .before .before in
+    let a = after-put-all (c .before) in
     let f = after-fill a in
     let p = at-start (enough-rows f) .pre in
     few-moves _ _ (p .0) (p .1 .0) (f .fill .ensures) (a .put-all .ensures) (c .if2 .taken)
@@ -60,7 +69,7 @@ copy-moves-requires c κs = search needs
 
 count-of-requires : tie.Need-count-of-requires
 count-of-requires c κs =
-    let r = after-rows (c .before .before .before) in
+    let r = after-rows (for-count c) in
     let e = enough-rows (after-fill (after-put (enough-moves r))) in
     (omega (arith, r .copy-rows .ensures .kept .long, e .if1 .left), at-start e .pre .0 .size .low)
 

@@ -24,8 +24,11 @@ at-start c = at-first (c .before .before)
 abbrev after-moved : tie.After-is-marked → tie.After-moved
 after-moved c = c .before .before
 
+abbrev after-mark : tie.After-slice-known4 → tie.After-mark
+after-mark c = c .before .before .before .before
+
 abbrev unmarked : tie.After-slice-known4 → tie.Else2
-unmarked c = c .before .before .before .before .before .before .before
+unmarked c = after-mark c .before .before .before
 
 -- The cell of the list, whose number is small.
 abbrev cell : tie.Start → ℕ
@@ -98,7 +101,7 @@ returns-3 c =
     let e = unmarked c in
     let m = after-moved (e .before) in
     let p = at-start (m .before) .pre in
-    one-new (p .0) (p .1 .0) (p .1 .1 .0) (p .1 .1 .1) (m .before .if1 .left) (to-at m) (not-marked e) (c .before .before .before .before .mark .ensures)
+    one-new (p .0) (p .1 .0) (p .1 .1 .0) (p .1 .1 .1) (m .before .if1 .left) (to-at m) (not-marked e) (after-mark c .mark .ensures)
 
 pub visit-spec : {M : Type 1} → statement M
 visit-spec =
