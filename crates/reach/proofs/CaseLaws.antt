@@ -1,4 +1,4 @@
--- Small plans by computation: a test that gives a part, and what the call answers on four plans.
+-- Small plans by computation: tests that give a part and the moves that lead out of it, and what the call answers on four of them.
 use mathlib.Core.Path.{_≡_, refl, sym, ap, subst, _∙_}
 use mathlib.Core.Bool.{Bool, true, false, not, _&&_, _||_}
 use mathlib.Core.Logic.{_≢_, Dec·and}
