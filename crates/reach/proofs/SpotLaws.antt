@@ -1,7 +1,7 @@
 -- What the functions that look at one move ask of its spot, and what its place says.
-use mathlib.Core.Path.{_≡_, ap}
+use mathlib.Core.Path.{_≡_, ap, subst}
 use mathlib.Core.List.{List}
-use Prim.Native.Nat.{ℕ, _+_, _/_, _%_, _≤_, _<_}
+use Prim.Native.Nat.{ℕ, _+_, _*_, _/_, _%_, _≤_, _<_}
 use native.Mathlib.Omega.{arith}
 use lib.ListN.{length, getD}
 use Rattle.plan.specs.Directions.{rowStep, columnStep}
@@ -22,3 +22,7 @@ module _ {p : Plan} (O : Obeys p) {u : ℕ} (lu : u < cells p) {at : Spot} (A : 
 -- The byte of a place is that of its cell and direction.
 pub byte-at : (p : Plan) (place : ℕ) → getD (p .bytes) place 0 ≡ byte p (place / 4) (place % 4)
 byte-at p place = ap (λ i. getD (p .bytes) i 0) (omega arith)
+
+-- The places of a cell are four times its number and a direction.
+pub place-at : (width u d : ℕ) {at : Spot} → d < 4 → At width u at → At width ((4 * u + d) / 4) at
+place-at width u d {at} l a = let e : u ≡ (4 * u + d) / 4 = omega arith in subst (λ x. At width x at) e a

@@ -118,16 +118,15 @@ fn count_of(rows: &[u64], height: usize) -> usize
     sum
 }
 
-// Is the move of a place shut, inside the plan, and does it lead from a marked cell to one that is not?
-fn leads_out(width: usize, height: usize, plan: &[u8], rows: &[u64], place: usize) -> bool
+// Is the move of a place shut, inside the plan, and does it lead from a marked cell, which stands at a spot, to one that is not?
+fn leads_out(width: usize, height: usize, plan: &[u8], rows: &[u64], at: Spot, place: usize) -> bool
     requires { ⌜ Obeys (planOf width height (now plan)) ⌝ }
-    requires { ⌜ (height ≤ length (now rows)) × (place < 4 * (height * width)) ⌝ }
+    requires { ⌜ (height ≤ length (now rows)) × (place < 4 * (height * width)) × At width (place / 4) at ⌝ }
     ensures { λ r. ⌜ Decides r (LeadsOut (planOf width height (now (plan .entry))) (Marked width (now (rows .entry))) (place / 4) (place % 4)) ⌝ }
 {
     if plan[place] != plan::SHUT {
         return false;
     }
-    let at = plan::spot_of(width, place / 4);
     if !is_marked(rows, at) {
         return false;
     }
@@ -146,18 +145,42 @@ fn put_out(
     rows: &[u64],
     outs: &mut [u16],
     count: usize,
+    at: Spot,
     place: usize,
 ) -> usize
     requires { ⌜ Obeys (planOf width height (now plan)) ⌝ }
-    requires { ⌜ (height ≤ length (now rows)) × (place < 4 * (height * width)) × (4 * (height * width) ≤ length (now outs)) ⌝ }
+    requires { ⌜ (height ≤ length (now rows)) × (place < 4 * (height * width)) × At width (place / 4) at × (4 * (height * width) ≤ length (now outs)) ⌝ }
     requires { ⌜ Outs (planOf width height (now plan)) (Marked width (now rows)) (now outs) count place ⌝ }
     ensures { λ r. ⌜ Outs (planOf width height (now (plan .entry))) (Marked width (now (rows .entry))) (now (outs .exit)) r (place + 1) ⌝ }
 {
-    if !leads_out(width, height, plan, rows, place) {
+    if !leads_out(width, height, plan, rows, at, place) {
         return count;
     }
     outs[count] = place as u16;
     count + 1
+}
+
+// Puts the places of a cell's moves that lead out. The compiler unrolls its loop, and each direction has its own test.
+fn put_four(
+    width: usize,
+    height: usize,
+    plan: &[u8],
+    rows: &[u64],
+    outs: &mut [u16],
+    count: usize,
+    at: Spot,
+    u: usize,
+) -> usize
+    requires { ⌜ Obeys (planOf width height (now plan)) ⌝ }
+    requires { ⌜ (height ≤ length (now rows)) × (u < height * width) × At width u at × (4 * (height * width) ≤ length (now outs)) ⌝ }
+    requires { ⌜ Outs (planOf width height (now plan)) (Marked width (now rows)) (now outs) count (4 * u) ⌝ }
+    ensures { λ r. ⌜ Outs (planOf width height (now (plan .entry))) (Marked width (now (rows .entry))) (now (outs .exit)) r (4 * (u + 1)) ⌝ }
+{
+    let mut n = count;
+    for d in 0..4 {
+        n = put_out(width, height, plan, rows, outs, n, at, 4 * u + d);
+    }
+    n
 }
 
 // The places of all moves that lead out, in cell, then direction order.
@@ -166,9 +189,12 @@ fn put_all(width: usize, height: usize, plan: &[u8], rows: &[u64], outs: &mut [u
     requires { ⌜ (height ≤ length (now rows)) × (4 * (height * width) ≤ length (now outs)) ⌝ }
     ensures { λ r. ⌜ Outs (planOf width height (now (plan .entry))) (Marked width (now (rows .entry))) (now (outs .exit)) r (4 * (height * width)) ⌝ }
 {
+    let cells = height * width;
+    let mut at = Spot { row: 0, column: 0 };
     let mut count = 0;
-    for place in 0..plan.len() {
-        count = put_out(width, height, plan, rows, outs, count, place);
+    for u in 0..cells {
+        count = put_four(width, height, plan, rows, outs, count, at, u);
+        at = plan::onward(width, at);
     }
     count
 }

@@ -18,7 +18,7 @@ returns : tie.Need-returns
 returns c = outs-skip (at-start (c .before) .pre .1 .1) (refuted (c .before .leads-out .ensures) (not-true _ (c .if1 .taken)))
 
 cast-outs : tie.Need-cast-outs
-cast-outs c = let p = at-start (c .before) .pre in omega (arith, p .1 .0, area (p .0 .size))
+cast-outs c = let p = at-start (c .before) .pre in omega (arith, p .1 .0 .1, area (p .0 .size))
 
 mul-outs : tie.Need-mul-outs
 mul-outs c = search needs
@@ -33,7 +33,7 @@ same-length : tie.Need-same-length
 same-length c = search needs
 
 returns-2 : tie.Need-returns-2
-returns-2 c = let p = at-start (c .before) .pre in outs-put (p .1 .1) (omega (arith, p .1 .1 .few, p .1 .0)) (c .before .leads-out .ensures .so (not-false _ (c .if1 .left)))
+returns-2 c = let p = at-start (c .before) .pre in outs-put (p .1 .1) (omega (arith, p .1 .1 .few, p .1 .0 .3, p .1 .0 .1)) (c .before .leads-out .ensures .so (not-false _ (c .if1 .left)))
 
 pub put-out-spec : {M : Type 1} → statement M
 put-out-spec =
