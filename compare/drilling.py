@@ -1,4 +1,4 @@
-"""What compare/drills and compare/fuzz share.
+"""What compare/drills, compare/reasons and compare/fuzz share.
 
 Drill files, runs of the runner, of the model and through the C interface, and what is told of a difference.
 """
@@ -74,6 +74,11 @@ def target_to(cell):
 SEARCH = action(4)
 
 
+def with_byte(drill_bytes, at, byte):
+    """The same drill with one byte changed."""
+    return drill_bytes[:at] + bytes([byte]) + drill_bytes[at + 1 :]
+
+
 def plan_of(width, height, cost_of_move):
     """A plan in which each move that stays in it costs what cost_of_move() says."""
     plan = bytearray()
@@ -146,6 +151,12 @@ def play(command, stdin=subprocess.DEVNULL):
         process.communicate()
         return Run(b"", b"no end after %d seconds\n" % LONGEST_RUN, None)
     return Run(lines, complaint, process.returncode)
+
+
+def only_told(run):
+    """Nothing printed, one line that says what is wrong, and a failure given back."""
+    one_line = len(run.complaint.splitlines()) == 1 and run.complaint.endswith(b"\n")
+    return run.lines == b"" and one_line and run.status not in (0, None)
 
 
 class ThroughC:

@@ -156,12 +156,19 @@ pub fn taken_apart(file: &[u8]) -> Result<Drill, u8> {
     })
 }
 
+/// Takes a well-formed file apart, or gives the number of its form.
+pub fn formed(file: &[u8]) -> Result<Drill, u8> {
+    let drill = taken_apart(file)?;
+    if all_well_formed(&drill.actions) {
+        Ok(drill)
+    } else {
+        Err(8)
+    }
+}
+
 /// Reads a file: gives the drill, or the number by which the file is refused.
 pub fn read(file: &[u8]) -> Result<Drill, u8> {
-    let drill = taken_apart(file)?;
-    if !all_well_formed(&drill.actions) {
-        return Err(8);
-    }
+    let drill = formed(file)?;
     match drill.open_refusal() {
         0 => Ok(drill),
         number => Err(number),

@@ -4,7 +4,7 @@
 //!     explain_model FILE along CELL..            the running cost at each of these cells
 //!     explain_model FILE through CELL DIRECTION  the least cost through this move
 //!
-//! A file that the runner refuses is refused by the runner's number, whatever is asked.
+//! A badly formed file is refused by the number of its form, whatever is asked; then the question is refused by its own rules.
 
 use compare::drill::{self, Drill};
 use compare::explain::{Floor, Reached};
@@ -53,7 +53,7 @@ fn reached_lines(Reached { cells, rows, moves }: Reached) -> Vec<String> {
 
 /// The lines of an answer, or the number by which file or question is refused.
 fn answer(file: &[u8], question: &Question) -> Result<Vec<String>, u8> {
-    let Drill { width, height, hunter, target, plan, .. } = drill::read(file)?;
+    let Drill { width, height, hunter, target, plan, .. } = drill::formed(file)?;
     let floor = Floor { width, height, plan: &plan };
     Ok(match question {
         Question::Reached => reached_lines(floor.reached(hunter, ROOM, ROOM)?),
