@@ -1,7 +1,7 @@
 -- What can be reached, what the fill keeps from one look to the next, and what it has found at its end.
-use mathlib.Core.Path.{_≡_, refl, sym, ap, subst, _∙_}
+use mathlib.Core.Path.{_≡_, refl, sym, _∙_}
 use mathlib.Core.Logic.{_≢_}
-use mathlib.Core.List.{List, [], _∷_, List·Memᴰ, List·Memᴰ·head, List·Memᴰ·not-nil, List·Memᴰ·eq-of-singleton}
+use mathlib.Core.List.{List, [], _∷_}
 use Prim.Native.Nat.{ℕ, _+_, _*_, _/_, _%_, _^_, _≤_, _<_}
 use native.Mathlib.Nat.{mod-lt, div-add-mod'}
 use native.Mathlib.Decide.{ℕ-discrete, decLt}
@@ -11,17 +11,18 @@ use lib.ListN.{length, getD, set, length-set}
 use lib.Pow.{pow-pos}
 use lib.Seq.{getD-set-same, getD-set-other}
 use borrow.Author.Count.{below-more}
-use Rattle.method.specs.Graph.{move, Comes}
+use Rattle.method.specs.Graph.{Comes}
 use Rattle.method.specs.Walk.{Chain, stay, go}
-use Rattle.plan.specs.Directions.{opposite}
 use Rattle.plan.specs.Cells.{Size, entered}
 use Rattle.plan.specs.Costs.{Plan, cells, byte, shut, Obeys}
-use Rattle.plan.specs.Grid.{outBy, graphOf}
+use Rattle.plan.specs.Grid.{graphOf}
 use Rattle.plan.specs.Reached.{At}
+use Rattle.plan.specs.Toward.{Leads}
 use Rattle.plan.specs.declared.Spot.{Spot}
 use Rattle.plan.proofs.CellLaws.{stands-row, stands-column, row-lt}
-use Rattle.plan.proofs.GridLaws.{up-to-is, up-to-has, graph-laws}
-use Rattle.plan.proofs.MoveLaws.{out-shut, out-open, open-stays, spot-placed, entered-in}
+use Rattle.plan.proofs.GridLaws.{graph-laws}
+use Rattle.plan.proofs.MoveLaws.{open-stays, spot-placed, entered-in, cost-of}
+use Rattle.plan.proofs.TowardLaws.{leads-open, open-leads}
 use Rattle.reach.specs.Bits.{bit, bitOf, Marked, sumTo}
 use Rattle.reach.specs.Reachable.{Reachable, Part}
 use Rattle.reach.specs.Outs.{Listed}
@@ -42,25 +43,14 @@ module _ (p : Plan) (O : Obeys p) where
   -- An open move reaches the cell that it enters ..
   pub reach-one : (u d : ℕ) → u < cells p → d < 4 → byte p u d ≢ shut → Reachable p u (entered (p .width) u d)
   reach-one u d lu ld n =
-      let v = entered (p .width) u d in
-      let k = opposite d + 1 in
-      let c = byte p u d in
-      let i : List·Memᴰ (move (opposite d + 1) (entered (p .width) u d) (byte p u d)) (outBy p u d) = rw (← out-open p O u d lu ld n) (List·Memᴰ·head refl) in
-      record { over = u ∷ v ∷ []; cost = c + 0; chain = go (graph-laws p (O .size) .comes-in v k u c (up-to-has (outBy p u) 4 (move k v c) d ld i)) stay }
+      let l : Leads (p .width) (p .height) u d (entered (p .width) u d) = record { direction = ld; stays-in = open-stays p O u d lu ld n; enters = refl } in
+      record { over = u ∷ entered (p .width) u d ∷ []; cost = byte p u d + 0; chain = go (leads-open p (O .size .wide) l (cost-of (O .bytes u d lu ld) n)) stay }
 
   -- .. and each open move is the one of some direction.
   leaves-by : (b k a c : ℕ) → Comes (graphOf p) b k a c → (d : ℕ) × (d < 4) × (byte p a d ≢ shut) × (b ≡ entered (p .width) a d)
   leaves-by b k a c o =
-      let i = up-to-is (outBy p a) 4 (move k b c) (graph-laws p (O .size) .goes-out b k a c o) in
-      let w = at (i .0) (i .1) (i .2) (ℕ-discrete (byte p a (i .0)) shut) in
-      (i .0, i .1, w .0, w .1)
-    where
-      la : a < cells p
-      la = graph-laws p (O .size) .from-in b k a c o
-
-      at : (d : ℕ) → d < 4 → List·Memᴰ (move k b c) (outBy p a d) → Dec (byte p a d ≡ shut) → (byte p a d ≢ shut) × (b ≡ entered (p .width) a d)
-      at d ld i (yes e) = absurd (List·Memᴰ·not-nil (subst (List·Memᴰ (move k b c)) (sym (out-shut p O a d la ld e)) i))
-      at d ld i (no n) = (n, ap (λ x. x .cell) (List·Memᴰ·eq-of-singleton (subst (List·Memᴰ (move k b c)) (sym (out-open p O a d la ld n)) i)))
+      let q = open-leads p (O .size .wide) o in
+      (q .0, q .1 .direction, (λ e. omega (arith, q .2, graph-laws p (O .size) .cost-le b k a c o)), sym (q .1 .enters))
 
   -- Marked cells that no open move leads out of hold all that one of them can reach.
   pub closed-holds : (rows : List ℕ) → ((s d : ℕ) → s < cells p → d < 4 → Marked (p .width) rows s → byte p s d ≢ shut → Marked (p .width) rows (entered (p .width) s d))
