@@ -13,11 +13,11 @@ use Rattle.reach.specs.declared.Reaching.{Reaching}
 use Rattle.reach.specs.declared.Reaching.the-variants.{Reaches}
 use Rattle.reach.specs.Promise.{reachTold, Reports}
 use Rattle.reach.proofs.ReportLaws.{plan-granted}
-use Rattle.walks.specs.declared.Running.{Running}
-use Rattle.walks.specs.declared.Running.the-variants.{Costs}
-use Rattle.walks.specs.Along.{runningTold, Costed}
-use Rattle.walks.proofs.AlongLaws.{along-granted}
-use Rattle.walks.proofs.AlongTheorems.{along-number, along-done}
+use Rattle.along.specs.declared.Running.{Running}
+use Rattle.along.specs.declared.Running.the-variants.{Costs}
+use Rattle.along.specs.Along.{runningTold, Costed}
+use Rattle.along.proofs.AlongLaws.{along-granted}
+use Rattle.along.proofs.Theorems.{along-number, along-done}
 
 -- The plan of a file that is well formed ends within it.
 pub plan-within : (file : List ℕ) {t : Trailer} → t ≡ trailerIn file → formNumber file ≡ 0 → t .offset ≤ length file

@@ -1,5 +1,7 @@
 // Why this way, why none: answers a question about the plan, the hunter and the target that a drill file opens with.
-// What is told is what the calls of `reach` and `walks` promise; that the lines say it is tested, not proved.
+// What is told is what the calls of `reach`, `along` and `through` promise; that the lines say it is tested, not proved.
+use along;
+use along::Running;
 use drill_file;
 use drill_file::Trailer;
 use input;
@@ -12,9 +14,8 @@ use question::Question;
 use reach;
 use reach::Reaching;
 use text;
-use walks;
-use walks::Passing;
-use walks::Running;
+use through;
+use through::Passing;
 ghost use Prim.Native.Nat.{_+_, _≤_};
 ghost use lib.ListN.{length};
 
@@ -128,7 +129,7 @@ fn tell_reached(t: Trailer, plan: &[u8]) {
 // Tells the running cost along listed cells.
 fn tell_along(t: Trailer, plan: &[u8], cells: &[u16]) {
     let mut costs = [0u32; question::ROOM];
-    let answer = walks::along(t.width, t.height, plan, cells, &mut costs);
+    let answer = along::along(t.width, t.height, plan, cells, &mut costs);
     match answer {
         Running::Costs(count) => print_costs(count, cells, &costs),
         Running::Refused(number) => print_refusal(number),
@@ -137,7 +138,7 @@ fn tell_along(t: Trailer, plan: &[u8], cells: &[u16]) {
 
 // Tells the least cost through a move.
 fn tell_through(t: Trailer, plan: &[u8], cell: usize, direction: usize) {
-    let answer = walks::through(t.width, t.height, t.hunter, t.target, plan, cell, direction);
+    let answer = through::through(t.width, t.height, t.hunter, t.target, plan, cell, direction);
     match answer {
         Passing::Cost(cost) => {
             print_number(b"through ", cost as u64, b"\n");

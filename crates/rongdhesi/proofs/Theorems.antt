@@ -40,10 +40,10 @@ use Rattle.rongdhesi.specs.declared.Written.{Written}
 use Rattle.rongdhesi.specs.Told.{kindOf, replyOf, writtenOf, CallTold, SearchTold, Measures, WritingTold}
 use Rattle.reach.specs.Promise.{ReachRules, Reports}
 use Rattle.reach.proofs.Theorems.{reach-refused, reach-number, one-reach}
-use Rattle.walks.specs.Along.{AlongRules, Costed}
-use Rattle.walks.proofs.AlongTheorems.{along-refused, along-number, one-along}
-use Rattle.walks.specs.Through.{ThroughRules, Passes}
-use Rattle.walks.proofs.ThroughTheorems.{through-refused, through-number, one-through}
+use Rattle.along.specs.Along.{AlongRules, Costed}
+use Rattle.along.proofs.Theorems.{along-refused, along-number, one-along}
+use Rattle.through.specs.Through.{ThroughRules, Passes}
+use Rattle.through.proofs.Theorems.{through-refused, through-number, one-through}
 use Rattle.rongdhesi.specs.declared.Reached.{Reached}
 use Rattle.rongdhesi.specs.declared.Running.{Running}
 use Rattle.rongdhesi.specs.declared.Through.{Through}

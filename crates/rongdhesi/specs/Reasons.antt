@@ -2,10 +2,10 @@
 use mathlib.Core.Path.{_≡_}
 use Rattle.reach.specs.declared.Reaching.{Reaching}
 use Rattle.reach.specs.Promise.{reachTold}
-use Rattle.walks.specs.declared.Running.{Running as WalkRunning}
-use Rattle.walks.specs.declared.Passing.{Passing}
-use Rattle.walks.specs.Along.{runningTold}
-use Rattle.walks.specs.Through.{throughTold}
+use Rattle.along.specs.declared.Running.{Running as WalkRunning}
+use Rattle.through.specs.declared.Passing.{Passing}
+use Rattle.along.specs.Along.{runningTold}
+use Rattle.through.specs.Through.{throughTold}
 use Rattle.rongdhesi.specs.declared.Reached.{Reached}
 use Rattle.rongdhesi.specs.declared.Running.{Running}
 use Rattle.rongdhesi.specs.declared.Through.{Through}

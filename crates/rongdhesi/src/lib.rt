@@ -1,5 +1,6 @@
 // The library for programs that are not written in Rattle: each public call as a C function, on numbers and lent tables.
 // An enum cannot cross, so an answer is told in numbers. `include/rongdhesi.h` declares all of this for C.
+use along;
 use answer;
 use change;
 use drill_writer;
@@ -9,7 +10,7 @@ use search;
 use search::Outcome;
 use session;
 use tables::Session;
-use walks;
+use through;
 ghost use mathlib.Core.Path.{_≡_};
 ghost use Rattle.tables.specs.Lent.{before, after};
 ghost use Rattle.tables.specs.Told.{toldRefusal};
@@ -19,8 +20,8 @@ ghost use Rattle.change.specs.Promise.{Changes};
 ghost use Rattle.search.specs.Promise.{Searches};
 ghost use Rattle.drill_writer.specs.Promise.{writtenTold, Writes};
 ghost use Rattle.reach.specs.Promise.{Reports};
-ghost use Rattle.walks.specs.Along.{Costed};
-ghost use Rattle.walks.specs.Through.{Passes};
+ghost use Rattle.along.specs.Along.{Costed};
+ghost use Rattle.through.specs.Through.{Passes};
 ghost use Rattle.rongdhesi.specs.Told.{replyOf, OutcomeTold, byteOf, writtenOf, CallTold, SearchTold, Measures, WritingTold};
 ghost use Rattle.rongdhesi.specs.Reasons.{reachedOf, runningOf, throughOf, Gives};
 
@@ -342,12 +343,12 @@ fn reached_told(called: reach::Reaching) -> Reached
 }
 
 // .. the running costs ..
-fn running_told(called: walks::Running) -> Running
+fn running_told(called: along::Running) -> Running
     ensures { λ r. ⌜ r ≡ runningOf called ⌝ }
 {
     match called {
-        walks::Running::Costs(costs) => Running { refusal: 0, costs },
-        walks::Running::Refused(refusal) => Running {
+        along::Running::Costs(costs) => Running { refusal: 0, costs },
+        along::Running::Refused(refusal) => Running {
             refusal: refusal as usize,
             costs: 0,
         },
@@ -355,21 +356,21 @@ fn running_told(called: walks::Running) -> Running
 }
 
 // .. and the least cost through a move.
-fn through_told(called: walks::Passing) -> Through
+fn through_told(called: through::Passing) -> Through
     ensures { λ r. ⌜ r ≡ throughOf called ⌝ }
 {
     match called {
-        walks::Passing::Cost(cost) => Through {
+        through::Passing::Cost(cost) => Through {
             refusal: 0,
             walk: 1,
             cost: cost as usize,
         },
-        walks::Passing::NoWalk => Through {
+        through::Passing::NoWalk => Through {
             refusal: 0,
             walk: 0,
             cost: 0,
         },
-        walks::Passing::Refused(refusal) => Through {
+        through::Passing::Refused(refusal) => Through {
             refusal: refusal as usize,
             walk: 0,
             cost: 0,
@@ -404,7 +405,7 @@ pub extern "C" fn rongdhesi_explain_along(
 ) -> Running
     ensures { λ r. ⌜ Gives runningOf (λ x. Costed width height (now (plan .entry)) (now (cells .entry)) (now (costs .entry)) x (now (costs .exit))) r ⌝ }
 {
-    let called = walks::along(width, height, plan, cells, costs);
+    let called = along::along(width, height, plan, cells, costs);
     running_told(called)
 }
 
@@ -421,6 +422,6 @@ pub extern "C" fn rongdhesi_explain_through(
 ) -> Through
     ensures { λ r. ⌜ Gives throughOf (Passes width height hunter target (now (plan .entry)) cell direction) r ⌝ }
 {
-    let called = walks::through(width, height, hunter, target, plan, cell, direction);
+    let called = through::through(width, height, hunter, target, plan, cell, direction);
     through_told(called)
 }

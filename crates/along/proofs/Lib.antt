@@ -1,0 +1,3 @@
+pub mod AlongLaws
+pub mod Theorems
+pub mod CaseLaws

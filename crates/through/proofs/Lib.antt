@@ -1,0 +1,4 @@
+pub mod FreshLaws
+pub mod ThroughLaws
+pub mod Theorems
+pub mod CaseLaws

@@ -1,0 +1,2 @@
+-- What the call that gives the least cost of any walk through a named move promises.
+pub mod Through
