@@ -1,5 +1,6 @@
 // The question that a program's words ask about a drill: what the hunter reaches, the cost along listed cells, or the cost through a move.
 ghost use Prim.Native.Nat.{_+_, _≤_, _<_};
+ghost use Rattle.question.specs.Hears.{Hears};
 
 // One cell more than the largest plan has: a list that is longer is refused as one of this length is.
 pub const ROOM: usize = 4097;
@@ -85,7 +86,9 @@ fn number_told(i: usize) -> usize
 }
 
 // The direction that an argument names.
-fn direction_told(i: usize) -> usize {
+fn direction_told(i: usize) -> usize
+    ensures { λ r. ⌜ r ≤ 4 ⌝ }
+{
     if says(i, b"north") {
         return 0;
     }
@@ -113,6 +116,7 @@ fn keep(cell: usize, i: usize, cells: &mut [u16])
 // The question that lists the cells of so many words from the third on.
 fn hear_cells(words: usize, cells: &mut [u16]) -> Heard
     requires { ⌜ words + 3 < 18446744073709551616 ⌝ }
+    ensures { λ r. ⌜ Hears r ⌝ }
 {
     for i in 0..words {
         let cell = number_told(3 + i);
@@ -125,7 +129,9 @@ fn hear_cells(words: usize, cells: &mut [u16]) -> Heard
 }
 
 // The question that the words behind the file's name ask; the cells of a list are kept.
-pub fn hear(cells: &mut [u16]) -> Heard {
+pub fn hear(cells: &mut [u16]) -> Heard
+    ensures { λ r. ⌜ Hears r ⌝ }
+{
     let count = os::arg_count();
     if count < 2 {
         return Heard::Nothing;

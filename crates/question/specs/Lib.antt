@@ -1,0 +1,2 @@
+-- What the words of a program come to.
+pub mod Hears
