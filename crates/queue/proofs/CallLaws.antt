@@ -5,16 +5,17 @@ use mathlib.Core.List.{List}
 use Prim.Native.Nat.{ℕ, _+_, _-_, _≤_, _<_}
 use native.Mathlib.Omega.{arith}
 use lib.ListN.{getD, set, length, length-set}
-use lib.Seq.{getD-set-same, getD-set-other}
+use lib.Seq.{getD-set-same, getD-set-other, set-getD, set-set, set-comm}
 use Rattle.decide.proofs.OrderLaws.{split}
 use Rattle.queue.specs.Order.{before}
 use Rattle.queue.specs.Queue.{absent, members, Agree, Tables, Ordered, Heap, Changed, EntryKept, LeastOf}
-use Rattle.queue.specs.Sift.{Loose, KeepsHeap, Exchanges, placeAfter, listAfter}
+use Rattle.queue.specs.Sift.{Loose, KeepsHeap, Held, Sifted, placeAfter, listAfter}
+use Rattle.queue.proofs.CaseLaws.{never}
 use Rattle.queue.proofs.OrderLaws.{before-order, before-set}
-use Rattle.queue.proofs.HeapLaws.{Swapped, reset, grow, root}
-use Rattle.queue.proofs.MemberLaws.{present, missing, is-absent, length-members, member-at, members-set, member-place, place-member, set-same}
-use Rattle.queue.proofs.PlaceLaws.{not-absent, place-used, more-agree, less-agree, room-left}
-use Rattle.queue.proofs.SiftLaws.{may-exchange, exchanged, tables-own}
+use Rattle.queue.proofs.HeapLaws.{reset, grow, root}
+use Rattle.queue.proofs.MemberLaws.{present, missing, is-absent, length-members, member-at, members-set, members-same, member-place, place-member, set-same}
+use Rattle.queue.proofs.PlaceLaws.{apart, not-absent, place-used, more-agree, less-agree, room-left}
+use Rattle.queue.proofs.SiftLaws.{tables-as, exchanged}
 
 -- ---- once the entry has settled
 
@@ -28,7 +29,7 @@ absent-was place place′ c q l e x b o =
     )
 
 module _ {width room count m c first second : ℕ} {q : Bool} {k1 k2 place list place′ list′ : List ℕ} where
-  pub done : Heap width room count k1 k2 place list → c < room → (q ≡ false → (first ≡ 0) × (second ≡ 0))
+  done : Heap width room count k1 k2 place list → c < room → (q ≡ false → (first ≡ 0) × (second ≡ 0))
       → Tables width room m (set k1 c first) (set k2 c second) place′ list′ → members place′ ≡ set (members place) c q
       → Ordered (before width (set k1 c first) (set k2 c second)) m list′
       → Changed width room m c first second q k1 k2 place (set k1 c first) (set k2 c second) place′ list′
@@ -52,6 +53,14 @@ module _ {width room count m c first second : ℕ} {q : Bool} {k1 k2 place list 
         };
       }
 
+-- The cell in hand, which may be another one, is written where it settled.
+pub stood : {width room count m c first second cell start j : ℕ} {q : Bool} {k1 k2 place list place₁ list₁ place′ list′ place″ list″ : List ℕ}
+    → Heap width room count k1 k2 place list → c < room → (q ≡ false → (first ≡ 0) × (second ≡ 0))
+    → Sifted width m cell start j (set k1 c first) (set k2 c second) place₁ list₁ place′ list′ (λ lt l. Ordered lt m l)
+    → length list₁ ≡ room → members (set place₁ cell start) ≡ set (members place) c q → place″ ≡ set place′ cell j → list″ ≡ set list′ j cell
+    → Changed width room m c first second q k1 k2 place (set k1 c first) (set k2 c second) place″ list″
+stood h bc z s l e ep el = rw (ep, el) (done h bc z (tables-as (s .held .tables) l) (s .membership ∙ e) (s .shape))
+
 -- Under the same keys the order is as it was, so nothing moves.
 pub same-keys : {width room count : ℕ} {k1 k2 place list k1′ k2′ place′ list′ : List ℕ} → Heap width room count k1 k2 place list
     → KeepsHeap (before width k1′ k2′) count place list place′ list′ → EntryKept count k1 k2 place list count k1′ k2′ place′ list′
@@ -60,14 +69,6 @@ same-keys {width} {count = count} {k1 = k1} {list = list} {k2′ = k2′} h keep
     (refl, k .0, k .1)
 
 -- ---- before it has
-
--- Cell c was exchanged with the last entry, now at place i, and cut off, so that `count` entries are left.
--- Where i is one of them its entry has yet to settle; else the cell was last itself, and nothing has moved.
-pub record Cut (width room count c i : ℕ) (k1 k2 place place′ list′ : List ℕ) : Type 0 where
-  pub tables : Tables width room count (set k1 c 0) (set k2 c 0) (set place′ c absent) (set list′ count absent)
-  pub membership : members (set place′ c absent) ≡ set (members place) c false
-  pub loose : i < count → Loose (before width (set k1 c 0) (set k2 c 0)) count i (set list′ count absent)
-  pub ordered : count ≤ i → Ordered (before width (set k1 c 0) (set k2 c 0)) count (set list′ count absent)
 
 module _ {width room count : ℕ} {k1 k2 place list : List ℕ} (h : Heap width room count k1 k2 place list) {c : ℕ} (bc : c < room) where
   -- The cell has another key.
@@ -79,19 +80,16 @@ module _ {width room count : ℕ} {k1 k2 place list : List ℕ} (h : Heap width 
     agree = p;
   }
 
-  -- A cell that is not queued, put in at the end of the list.
+  -- A cell that is not queued, in hand over the empty place at the end of the list.
   module _ (out : getD place c 0 ≡ absent) where
-    pub put-in-room : count < length list
-    put-in-room = omega (arith, room-left (h .tables .agree) bc out, h .tables .agree .lengthList)
-
     not-listed : (x : ℕ) → x < count → getD list x 0 ≡ c → ⊥
     not-listed x d e = not-absent (h .tables .agree) d (cc (h .tables .agree .placed x d, out))
 
     pub put-in-loose : (first second : ℕ)
-        → (Tables width (length (set list count c)) (count + 1) (set k1 c first) (set k2 c second) (set place c count) (set list count c))
+        → (Held width room (count + 1) c count (set k1 c first) (set k2 c second) place list)
         × (Loose (before width (set k1 c first) (set k2 c second)) (count + 1) count (set list count c))
     put-in-loose first second = (
-      tables-own (rekeyed first second (more-agree (h .tables .agree) bc out (room-left (h .tables .agree) bc out))),
+      record { inside = omega arith; tables = rekeyed first second (more-agree (h .tables .agree) bc out (room-left (h .tables .agree) bc out)) },
       grow (before-order width k1 k2) (h .ordered)
           (λ x y dx dy.
           cc (
@@ -115,51 +113,96 @@ module _ {width room count : ℕ} {k1 k2 place list : List ℕ} (h : Heap width 
     elsewhere : (x : ℕ) → x < count → (x ≡ i → ⊥) → getD list x 0 ≡ c → ⊥
     elsewhere x d away e = away (cc (h .tables .agree .placed x d))
 
+    -- ---- put under another key
+
+    -- It stands there already.
+    stands : (set place c i ≡ place) × (set list i c ≡ list)
+    stands = (ap (λ (z : ℕ). set place c z) at ∙ set-getD place c 0, ap (λ (z : ℕ). set list i z) (sym (here .1)) ∙ set-getD list i 0)
+
     pub put-under-loose : (first second : ℕ)
-        → (Tables width (length list) count (set k1 c first) (set k2 c second) place list) × (Loose (before width (set k1 c first) (set k2 c second)) count i list)
+        → (Held width room count c i (set k1 c first) (set k2 c second) place list) × (Loose (before width (set k1 c first) (set k2 c second)) count i (set list i c))
     put-under-loose first second = (
-      tables-own (rekeyed first second (h .tables .agree)),
-      reset (before-order width k1 k2) (h .ordered) (omega arith) (here .0)
-          (λ x y dx dy nx ny. before-set width k1 k2 c first second (getD list x 0) (getD list y 0) (elsewhere x dx nx) (elsewhere y dy ny)),
+      record { inside = here .0; tables = rw (stands .0, stands .1) (rekeyed first second (h .tables .agree)) },
+      rw (stands .1)
+          (reset (before-order width k1 k2) (h .ordered) (omega arith) (here .0)
+          (λ x y dx dy nx ny. before-set width k1 k2 c first second (getD list x 0) (getD list y 0) (elsewhere x dx nx) (elsewhere y dy ny))),
     )
 
-    pub put-under-members : members place ≡ set (members place) c true
-    put-under-members = set-same (members place) c (place-member place c (omega (arith, h .tables .agree .lengthPlace)) queued)
+    -- Where its place is the old one, it need not be written.
+    pub put-under-stays : {j : ℕ} {k1′ k2′ place′ list′ : List ℕ} → Sifted width count c i j k1′ k2′ place list place′ list′ (λ lt l. Ordered lt count l)
+        → j ≡ i → (place′ ≡ set place′ c j) × (list′ ≡ set list′ j c)
+    put-under-stays s e = let same = s .unmoved e in (cc (same .0, stands .0, e), cc (same .1, stands .1, e))
 
-    -- Taken out.
+    pub put-under-done : (first second : ℕ) {j : ℕ} {place′ list′ place″ list″ : List ℕ}
+        → Sifted width count c i j (set k1 c first) (set k2 c second) place list place′ list′ (λ lt l. Ordered lt count l)
+        → place″ ≡ set place′ c j → list″ ≡ set list′ j c
+        → (Changed width room count c first second true k1 k2 place (set k1 c first) (set k2 c second) place″ list″)
+        × (EntryKept count k1 k2 place list count (set k1 c first) (set k2 c second) place″ list″)
+    put-under-done first second s ep el =
+        let was : members (set place c i) ≡ set (members place) c true =
+        ap members (stands .0) ∙ set-same (members place) c (place-member place c (omega (arith, h .tables .agree .lengthPlace)) queued) in (
+          stood h bc (λ z. absurd (never refl z)) s (h .tables .agree .lengthList) was ep el,
+          same-keys h (rw (stands .0, stands .1, sym ep, sym el) at (s .keeps)),
+        )
+
+    -- ---- taken out: the last entry, if it is another, is in hand over its place
+
     pub has-last : count ≡ count - 1 + 1
     has-last = omega (arith, here .0)
 
-    pub take-out-asks : Exchanges i (count - 1) place list
-    take-out-asks = may-exchange (h .tables) (here .0) (omega (arith, has-last))
+    cut-members : members (set place c absent) ≡ set (members place) c false
+    cut-members = members-set place c absent ∙ ap (λ (z : Bool). set (members place) c z) (missing {x = absent} refl)
 
-    module _ {place′ list′ : List ℕ} (ep : place′ ≡ placeAfter i (count - 1) place list) (el : list′ ≡ listAfter i (count - 1) list) where
-      moved : (Tables width room count k1 k2 place′ list′) × (members place′ ≡ members place) × (Swapped i (count - 1) list list′)
-      moved = exchanged (h .tables) (here .0) (omega (arith, has-last)) ep el
+    -- It was last itself: nothing has moved.
+    pub last-out : count - 1 ≤ i → Changed width room (count - 1) c 0 0 false k1 k2 place (set k1 c 0) (set k2 c 0) (set place c absent) (set list (count - 1) absent)
+    last-out b =
+        let last : getD list (count - 1) 0 ≡ c = let e : i ≡ count - 1 = omega (arith, has-last, here .0) in cc (here .1) in
+        let stays : (x : ℕ) → x < count - 1 → getD (set list (count - 1) absent) x 0 ≡ getD list x 0 = λ x d. getD-set-other list (count - 1) x absent 0 (λ e. omega arith) in
+        done h bc (λ z. (refl, refl)) (rekeyed 0 0 (rw last at (less-agree (h .tables .agree) has-last))) cut-members
+        record {
+          holds = λ x y u d.
+              let dx : x < count - 1 = omega (arith, u .low) in
+              let key = before-set width k1 k2 c 0 0 (getD list y 0) (getD list x 0) (elsewhere y (omega arith) (λ e. omega arith)) (elsewhere x (omega arith) (λ e. omega arith)) in
+              cc (stays x dx, stays y d, key, h .ordered .holds x y u (omega arith));
+        }
 
-      -- Places before the last other than the cell's have the entries that they had.
-      stays : (x : ℕ) → x < count - 1 → (x ≡ i → ⊥) → getD (set list′ (count - 1) absent) x 0 ≡ getD list x 0
-      stays x d away = getD-set-other list′ (count - 1) x absent 0 (λ e. omega arith) ∙ moved .2 .other x away (λ e. omega arith)
+    -- The last entry is another.
+    module _ (b : i < count - 1) {moved : ℕ} (em : moved ≡ getD list (count - 1) 0) where
+      inside : (i < count) × (count - 1 < count)
+      inside = (here .0, omega (arith, has-last))
 
-      same : (x y : ℕ) → x < count - 1 → y < count - 1 → (x ≡ i → ⊥) → (y ≡ i → ⊥)
-          → before width (set k1 c 0) (set k2 c 0) (getD (set list′ (count - 1) absent) x 0) (getD (set list′ (count - 1) absent) y 0)
-          ≡ before width k1 k2 (getD list x 0) (getD list y 0)
-      same x y dx dy nx ny =
-          cc (
-            stays x dx nx,
-            stays y dy ny,
-            before-set width k1 k2 c 0 0 (getD list x 0) (getD list y 0) (elsewhere x (omega arith) nx) (elsewhere y (omega arith) ny),
+      differ : moved ≡ c → ⊥
+      differ e = let q : count - 1 ≡ i = apart (h .tables .agree) (inside .1) (inside .0) (cc (em, here .1)) in omega arith
+
+      -- What is left when the two have exchanged their places and the cell is cut off.
+      cut-place : set (placeAfter i (count - 1) place list) c absent ≡ set (set place c absent) moved i
+      cut-place = cc (here .1, em, set-set (set place moved i) c (count - 1) absent, set-comm place moved c i absent differ)
+
+      cut-list : set (listAfter i (count - 1) list) (count - 1) absent ≡ set (set list (count - 1) absent) i moved
+      cut-list = cc (em, set-set (set list i moved) (count - 1) (getD list i 0) absent, set-comm list i (count - 1) moved absent (λ e. omega arith))
+
+      pub take-out-loose
+          : (Held width room (count - 1) moved i (set k1 c 0) (set k2 c 0) (set place c absent) (set list (count - 1) absent))
+          × (Loose (before width (set k1 c 0) (set k2 c 0)) (count - 1) i (set (set list (count - 1) absent) i moved))
+      take-out-loose =
+          let x = exchanged (h .tables) (inside .0) (inside .1) refl refl in
+          let stays : (x : ℕ) → x < count - 1 → (x ≡ i → ⊥) → getD (set (set list (count - 1) absent) i moved) x 0 ≡ getD list x 0 =
+          λ x d away. getD-set-other (set list (count - 1) absent) i x moved 0 away ∙ getD-set-other list (count - 1) x absent 0 (λ e. omega arith) in (
+            record { inside = b; tables = rekeyed 0 0 (rw (x .2 .second ∙ here .1, cut-place, cut-list) at (less-agree (x .0 .agree) has-last)) },
+            reset (before-order width k1 k2) (h .ordered) (omega arith) b
+                (λ x y dx dy nx ny.
+                cc (
+                  stays x dx nx,
+                  stays y dy ny,
+                  before-set width k1 k2 c 0 0 (getD list x 0) (getD list y 0) (elsewhere x (omega arith) nx) (elsewhere y (omega arith) ny),
+                )),
           )
 
-      pub taken : Cut width room (count - 1) c i k1 k2 place place′ list′
-      taken = record {
-        tables = rekeyed 0 0 (rw (moved .2 .second ∙ here .1) at (less-agree (moved .0 .agree) has-last));
-        membership = members-set place′ c absent ∙ cc (moved .1, missing {x = absent} refl);
-        loose = λ b. reset (before-order width k1 k2) (h .ordered) (omega arith) b same;
-        ordered = λ b. record {
-          holds = λ x y u d. same y x d (omega (arith, u .low)) (λ e. omega arith) (λ e. omega (arith, u .low)) ∙ h .ordered .holds x y u (omega arith);
-        };
-      }
+      pub take-out-members : members (set (set place c absent) moved i) ≡ set (members place) c false
+      take-out-members =
+          members-same (set place c absent) moved i (not-absent (h .tables .agree) (inside .0))
+          (λ e. not-absent (h .tables .agree) (inside .1) (cc (getD-set-other place c moved absent 0 differ, em, h .tables .agree .placed (count - 1) (inside .1))))
+          ∙ cut-members
 
 -- ---- the first place names the least cell
 

@@ -5,6 +5,7 @@ pub mod HeapLaws
 pub mod MemberLaws
 pub mod PlaceLaws
 pub mod SiftLaws
+pub mod HoleLaws
 pub mod CallLaws
 pub mod QueueLaws
 pub mod RuleLaws

@@ -30,7 +30,7 @@ length-two l i j u v = length-set (set l i u) j v ∙ length-set l i u
 
 module _ {room count : ℕ} {place list : List ℕ} (p : Agree room count place list) where
   -- Different places name different cells.
-  apart : {i j : ℕ} → i < count → j < count → getD list i 0 ≡ getD list j 0 → i ≡ j
+  pub apart : {i j : ℕ} → i < count → j < count → getD list i 0 ≡ getD list j 0 → i ≡ j
   apart {i} {j} bi bj e = cc (p .placed i bi, p .placed j bj)
 
   -- Places of the list are no absent value.

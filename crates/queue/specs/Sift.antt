@@ -1,4 +1,5 @@
--- Inner notions, not part of the queue's promise: what its private functions promise each other while one entry is on its way to its place.
+-- Inner notions, not part of the queue's promise: what its private functions promise each other while one cell is on its way to its place.
+-- The cell is in hand and a place of the list is empty. The tables are read as if it stood there: `set place cell i` and `set list i cell`.
 use mathlib.Core.Path.{_≡_}
 use mathlib.Core.Bool.{Bool, false}
 use mathlib.Core.List.{List}
@@ -19,26 +20,38 @@ pub record Low (lt : ℕ → ℕ → Bool) (count i : ℕ) (list : List ℕ) : T
   pub loose : Loose lt count i list
   pub up : (x : ℕ) → Under x i → lt (getD list i 0) (getD list x 0) ≡ false
 
+-- The entry has gone up from `start` to i and belongs no higher; where it has moved at all, no lower either.
+pub record Risen (lt : ℕ → ℕ → Bool) (count start i : ℕ) (list : List ℕ) : Type 0 where
+  pub low : Low lt count i list
+  pub ordered : (i ≡ start → ⊥) → Ordered lt count list
+
 -- A list that is a binary heap already stays as it is, and so do the places.
 abbrev pub KeepsHeap : (ℕ → ℕ → Bool) → ℕ → List ℕ → List ℕ → List ℕ → List ℕ → Type 0
 KeepsHeap lt count place list place′ list′ = Ordered lt count list → (place′ ≡ place) × (list′ ≡ list)
 
--- What moving an entry leaves of the places and the list: they agree, the same cells are queued, the list has the shape P under their order, and one that was a binary heap already is as it was.
-pub record Sifted (width count : ℕ) (k1 k2 place list place′ list′ : List ℕ) (P : (ℕ → ℕ → Bool) → Type 0) : Type 0 where
-  pub tables : Tables width (length list) count k1 k2 place′ list′
-  pub membership : members place′ ≡ members place
-  pub shape : P (before width k1 k2)
-  pub keeps : KeepsHeap (before width k1 k2) count place list place′ list′
+-- A cell in hand and the empty place i: read as if the cell stood there, the tables have their lengths, and list and places agree.
+pub record Held (width room count cell i : ℕ) (k1 k2 place list : List ℕ) : Type 0 where
+  pub inside : i < count
+  pub tables : Tables width room count k1 k2 (set place cell i) (set list i cell)
 
--- The entries at places i and j of the list can be exchanged: both cells have a place, and each place fits into 16 bits.
-pub record Exchanges (i j : ℕ) (place list : List ℕ) : Type 0 where
-  pub one : i < length list
-  pub other : j < length list
-  pub small : length list ≤ absent
-  pub one-placed : getD list i 0 < length place
-  pub other-placed : getD list j 0 < length place
+-- What is left of the places and the list when the empty place has gone from `start` to i, in the same reading:
+-- they agree, the same cells are queued, the list has the shape P under their order, and one that was a binary heap already is as it was.
+pub record Sifted (width count cell start i : ℕ) (k1 k2 place list place′ list′ : List ℕ) (P : (ℕ → ℕ → Bool) → List ℕ → Type 0) : Type 0 where
+  pub held : Held width (length list) count cell i k1 k2 place′ list′
+  pub membership : members (set place′ cell i) ≡ members (set place cell start)
+  pub shape : P (before width k1 k2) (set list′ i cell)
+  pub keeps : KeepsHeap (before width k1 k2) count (set place cell start) (set list start cell) (set place′ cell i) (set list′ i cell)
+  -- Where the place has not moved, nothing was written.
+  pub unmoved : i ≡ start → (place′ ≡ place) × (list′ ≡ list)
 
--- The two tables after the entries at places i and j were exchanged.
+-- The cell can be written at place i of the list: both are in the tables, and both numbers fit into 16 bits.
+pub record Stands (i cell : ℕ) (place list : List ℕ) : Type 0 where
+  pub inList : i < length list
+  pub inPlace : cell < length place
+  pub smallList : length list ≤ absent
+  pub smallPlace : length place ≤ absent
+
+-- The two tables after the entries at places i and j were exchanged. That is what passing an entry does, in this reading (proofs/HoleLaws.antt).
 abbrev pub placeAfter : ℕ → ℕ → List ℕ → List ℕ → List ℕ
 placeAfter i j place list = set (set place (getD list j 0) i) (getD list i 0) j
 
@@ -58,10 +71,10 @@ pub record KeyedAt (width : ℕ) (k1 k2 list : List ℕ) (i j : ℕ) : Type 0 wh
   pub other : j < length list
   pub keyed : Keyed width k1 k2 (getD list i 0) (getD list j 0)
 
--- Any two entries of the list can be compared.
-pub record Compares (width count : ℕ) (k1 k2 list : List ℕ) : Type 0 where
+-- Any two entries right under place i can be compared. What stands at i itself may be no cell.
+pub record Compares (width count i : ℕ) (k1 k2 list : List ℕ) : Type 0 where
   pub long : count ≤ length list
-  pub keyed : (x y : ℕ) → x < count → y < count → Keyed width k1 k2 (getD list x 0) (getD list y 0)
+  pub keyed : (x y : ℕ) → Under i x → x < count → Under i y → y < count → Keyed width k1 k2 (getD list x 0) (getD list y 0)
 
 -- Place m is right under place i, and no entry there comes before its entry.
 pub record Lesser (lt : ℕ → ℕ → Bool) (count i m : ℕ) (list : List ℕ) : Type 0 where

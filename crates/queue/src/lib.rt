@@ -3,13 +3,13 @@
 ghost use mathlib.Core.Path.{_≡_};
 ghost use mathlib.Core.Bool.{true, false};
 ghost use Prim.Native.Nat.{_+_, _<_, _≤_};
-ghost use lib.ListN.{length, getD};
+ghost use lib.ListN.{length, getD, set};
 ghost use Rattle.decide.specs.Decides.{Decides};
 ghost use Rattle.decide.specs.Order.{columnFirst};
 ghost use Rattle.queue.specs.Order.{before};
-ghost use Rattle.queue.specs.Queue.{absent, Tables, Ordered, Heap, Changed, EntryKept, LeastOf};
+ghost use Rattle.queue.specs.Queue.{absent, Ordered, Heap, Changed, EntryKept, LeastOf};
 ghost use Rattle.queue.specs.Rules.{EntryRule, AbsentRule, QueuedRule, Lengths};
-ghost use Rattle.queue.specs.Sift.{Loose, Low, Sifted, Exchanges, placeAfter, listAfter, Keyed, KeyedAt, Compares, Lesser};
+ghost use Rattle.queue.specs.Sift.{Loose, Low, Risen, Held, Sifted, Stands, Keyed, KeyedAt, Compares, Lesser};
 
 // The place of a cell that is not queued, and the content of an unused place of the list.
 pub const ABSENT: u16 = 65535;
@@ -62,23 +62,18 @@ fn place_before(width: usize, k1: &[u32], k2: &[u32], list: &[u16], i: usize, j:
     cell_before(width, k1, k2, a, b)
 }
 
-// Exchanges the entries at places i and j of the list.
-fn exchange(place: &mut [u16], list: &mut [u16], i: usize, j: usize)
-    requires { ⌜ Exchanges i j (now place) (now list) ⌝ }
-    ensures { λ _. ⌜ now (place .exit) ≡ placeAfter i j (now (place .entry)) (now (list .entry)) ⌝ }
-    ensures { λ _. ⌜ now (list .exit) ≡ listAfter i j (now (list .entry)) ⌝ }
+// Writes a cell at place i of the list, and that place at the cell.
+fn stand(place: &mut [u16], list: &mut [u16], i: usize, cell: usize)
+    requires { ⌜ Stands i cell (now place) (now list) ⌝ }
+    ensures { λ _. ⌜ now (place .exit) ≡ set (now (place .entry)) cell i ⌝ }
+    ensures { λ _. ⌜ now (list .exit) ≡ set (now (list .entry)) i cell ⌝ }
 {
-    let a = list[i];
-    let b = list[j];
-    let cell_a = wide(a);
-    let cell_b = wide(b);
-    list[i] = b;
-    list[j] = a;
-    place[cell_b] = i as u16;
-    place[cell_a] = j as u16;
+    list[i] = cell as u16;
+    place[cell] = i as u16;
 }
 
-// Moves the entry at `start` up as long as it comes before the one above it. Returns its place.
+// With a cell in hand and place `start` of the list empty, the empty place goes up as long as the cell comes before the entry above it.
+// Each entry passed is written once. Returns the place where the cell belongs, or from where it belongs lower.
 fn sift_up(
     width: usize,
     k1: &[u32],
@@ -87,18 +82,20 @@ fn sift_up(
     list: &mut [u16],
     count: usize,
     start: usize,
+    cell: usize,
 ) -> usize
-    requires { ⌜ Tables width (length (now list)) count (now k1) (now k2) (now place) (now list) ⌝ }
-    requires { ⌜ Loose (before width (now k1) (now k2)) count start (now list) ⌝ }
-    ensures { λ r. ⌜ Sifted width count (now (k1 .entry)) (now (k2 .entry)) (now (place .entry)) (now (list .entry)) (now (place .exit)) (now (list .exit)) (λ lt. Low lt count r (now (list .exit))) ⌝ }
+    requires { ⌜ Held width (length (now list)) count cell start (now k1) (now k2) (now place) (now list) ⌝ }
+    requires { ⌜ Loose (before width (now k1) (now k2)) count start (set (now list) start cell) ⌝ }
+    ensures { λ r. ⌜ Sifted width count cell start r (now (k1 .entry)) (now (k2 .entry)) (now (place .entry)) (now (list .entry)) (now (place .exit)) (now (list .exit)) (λ lt l. Risen lt count start r l) ⌝ }
 {
     let mut i = start;
     while 0 < i {
         let above = (i - 1) / 2;
-        if !place_before(width, k1, k2, list, i, above) {
+        let upper = wide(list[above]);
+        if !cell_before(width, k1, k2, cell, upper) {
             return i;
         }
-        exchange(place, list, i, above);
+        stand(place, list, i, upper);
         i = above;
     }
     i
@@ -106,7 +103,7 @@ fn sift_up(
 
 // The place of the lesser entry right under place i, which has one there.
 fn lesser_under(width: usize, k1: &[u32], k2: &[u32], list: &[u16], count: usize, i: usize) -> usize
-    requires { ⌜ Compares width count (now k1) (now k2) (now list) ⌝ }
+    requires { ⌜ Compares width count i (now k1) (now k2) (now list) ⌝ }
     requires { ⌜ i + i + 1 < count ⌝ }
     ensures { λ r. ⌜ Lesser (before width (now (k1 .entry)) (now (k2 .entry))) count i r (now (list .entry)) ⌝ }
 {
@@ -120,7 +117,7 @@ fn lesser_under(width: usize, k1: &[u32], k2: &[u32], list: &[u16], count: usize
     left
 }
 
-// Moves the entry at `start` down as long as one right under it comes before it.
+// The empty place goes down as long as an entry right under it comes before the cell in hand. Returns the place where the cell belongs.
 fn sift_down(
     width: usize,
     k1: &[u32],
@@ -129,23 +126,27 @@ fn sift_down(
     list: &mut [u16],
     count: usize,
     start: usize,
-)
-    requires { ⌜ Tables width (length (now list)) count (now k1) (now k2) (now place) (now list) ⌝ }
-    requires { ⌜ Low (before width (now k1) (now k2)) count start (now list) ⌝ }
-    ensures { λ _. ⌜ Sifted width count (now (k1 .entry)) (now (k2 .entry)) (now (place .entry)) (now (list .entry)) (now (place .exit)) (now (list .exit)) (λ lt. Ordered lt count (now (list .exit))) ⌝ }
+    cell: usize,
+) -> usize
+    requires { ⌜ Held width (length (now list)) count cell start (now k1) (now k2) (now place) (now list) ⌝ }
+    requires { ⌜ Low (before width (now k1) (now k2)) count start (set (now list) start cell) ⌝ }
+    ensures { λ r. ⌜ Sifted width count cell start r (now (k1 .entry)) (now (k2 .entry)) (now (place .entry)) (now (list .entry)) (now (place .exit)) (now (list .exit)) (λ lt l. Ordered lt count l) ⌝ }
 {
     let mut i = start;
     while i + i + 1 < count {
         let under = lesser_under(width, k1, k2, list, count, i);
-        if !place_before(width, k1, k2, list, under, i) {
-            return;
+        let lesser = wide(list[under]);
+        if !cell_before(width, k1, k2, lesser, cell) {
+            return i;
         }
-        exchange(place, list, i, under);
+        stand(place, list, i, lesser);
         i = under;
     }
+    i
 }
 
-// Brings the entry at place i to where it belongs, be it higher or lower.
+// The place where the cell in hand belongs, be it higher or lower than the empty place i. Neither is written there yet.
+// A cell that went up comes before all that it passed, so it does not go down again.
 fn settle(
     width: usize,
     k1: &[u32],
@@ -154,13 +155,17 @@ fn settle(
     list: &mut [u16],
     count: usize,
     i: usize,
-)
-    requires { ⌜ Tables width (length (now list)) count (now k1) (now k2) (now place) (now list) ⌝ }
-    requires { ⌜ Loose (before width (now k1) (now k2)) count i (now list) ⌝ }
-    ensures { λ _. ⌜ Sifted width count (now (k1 .entry)) (now (k2 .entry)) (now (place .entry)) (now (list .entry)) (now (place .exit)) (now (list .exit)) (λ lt. Ordered lt count (now (list .exit))) ⌝ }
+    cell: usize,
+) -> usize
+    requires { ⌜ Held width (length (now list)) count cell i (now k1) (now k2) (now place) (now list) ⌝ }
+    requires { ⌜ Loose (before width (now k1) (now k2)) count i (set (now list) i cell) ⌝ }
+    ensures { λ r. ⌜ Sifted width count cell i r (now (k1 .entry)) (now (k2 .entry)) (now (place .entry)) (now (list .entry)) (now (place .exit)) (now (list .exit)) (λ lt l. Ordered lt count l) ⌝ }
 {
-    let j = sift_up(width, k1, k2, place, list, count, i);
-    sift_down(width, k1, k2, place, list, count, j);
+    let j = sift_up(width, k1, k2, place, list, count, i, cell);
+    if j != i {
+        return j;
+    }
+    sift_down(width, k1, k2, place, list, count, j, cell)
 }
 
 // Puts a cell that is not queued into the queue under the key (first, second). Returns the new count.
@@ -183,13 +188,12 @@ pub fn put_in(
 {
     k1[cell] = first;
     k2[cell] = second;
-    place[cell] = count as u16;
-    list[count] = cell as u16;
-    settle(width, k1, k2, place, list, count + 1, count);
+    let i = settle(width, k1, k2, place, list, count + 1, count, cell);
+    stand(place, list, i, cell);
     count + 1
 }
 
-// Puts a queued cell under another key, (first, second). Under the key that it has, list and places stay as they are.
+// Puts a queued cell under another key, (first, second). Where it stays in its place, list and places stay as they are.
 pub fn put_under(
     width: usize,
     k1: &mut [u32],
@@ -210,7 +214,10 @@ pub fn put_under(
     let i = wide(place[cell]);
     k1[cell] = first;
     k2[cell] = second;
-    settle(width, k1, k2, place, list, count, i);
+    let j = settle(width, k1, k2, place, list, count, i, cell);
+    if j != i {
+        stand(place, list, j, cell);
+    }
 }
 
 // Takes a queued cell out of the queue: the last entry of the list takes its place and is settled there. Returns the new count.
@@ -231,7 +238,7 @@ pub fn take_out(
 {
     let i = wide(place[cell]);
     let last = count - 1;
-    exchange(place, list, i, last);
+    let moved = wide(list[last]);
     k1[cell] = 0;
     k2[cell] = 0;
     place[cell] = ABSENT;
@@ -239,7 +246,8 @@ pub fn take_out(
     if last <= i {
         return last;
     }
-    settle(width, k1, k2, place, list, last, i);
+    let j = settle(width, k1, k2, place, list, last, i, moved);
+    stand(place, list, j, moved);
     last
 }
 

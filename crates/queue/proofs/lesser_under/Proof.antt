@@ -3,7 +3,6 @@ use mathlib.Core.Path.{sym, _∙_}
 use native.Mathlib.Omega.{arith}
 use Rattle.queue.proofs.OrderLaws.{before-order}
 use Rattle.queue.proofs.HeapLaws.{lesser-left, lesser-right}
-use Rattle.queue.proofs.SiftLaws.{may-compare}
 use borrow.Author.Needs.{needs}
 use Rattle.queue.proofs.lesser_under.Statement.{statement}
 use Rattle.queue.proofs.lesser_under.Tie as tie
@@ -21,7 +20,13 @@ add-right : tie.Need-add-right
 add-right c = search needs
 
 place-before-requires : tie.Need-place-before-requires
-place-before-requires c κs = let p = at-start (c .before) .pre in may-compare (p .0) (c .if1 .taken) (p .1)
+place-before-requires c κs =
+    let p = at-start (c .before) .pre in
+    record {
+      one = omega (arith, p .0 .long);
+      other = omega (arith, p .0 .long);
+      keyed = p .0 .keyed _ _ record { low = omega arith; high = omega arith } (c .if1 .taken) record { low = omega arith; high = omega arith } (p .1);
+    }
 
 returns : tie.Need-returns
 returns c = lesser-right (before-order _ _ _) (c .before .before .if1 .taken) (sym (c .before .place-before .ensures) ∙ c .if2 .taken)

@@ -1,9 +1,8 @@
--- The new entry stands at the end of the list and settles from there.
-use mathlib.Core.Path.{refl, sym, _∙_}
-use lib.ListN.{length-set}
+-- The new cell is in hand over the empty place at the end of the list, and stands where it settles from there.
+use mathlib.Core.Path.{refl}
 use Rattle.queue.proofs.CaseLaws.{never}
-use Rattle.queue.proofs.SiftLaws.{tables-as}
-use Rattle.queue.proofs.CallLaws.{put-in-room, put-in-loose, put-in-members, done}
+use Rattle.queue.proofs.HoleLaws.{may-stand}
+use Rattle.queue.proofs.CallLaws.{put-in-loose, put-in-members, stood}
 use borrow.Author.Needs.{needs}
 use Rattle.queue.proofs.put_in.Statement.{statement}
 use Rattle.queue.proofs.put_in.Tie as tie
@@ -17,9 +16,8 @@ at-stores t = t .before .before .before .before
 abbrev after-settle : tie.After-slice-known6 → tie.After-settle
 after-settle t = t .before .before .before .before
 
--- the start, seen from the end
-abbrev at-first : tie.After-slice-known6 → tie.Start
-at-first t = at-start (at-stores (after-settle t .before))
+abbrev after-stand : tie.After-slice-known8 → tie.After-stand
+after-stand t = t .before .before .before .before
 
 mul-k1 : tie.Need-mul-k1
 mul-k1 c = search needs
@@ -33,29 +31,14 @@ mul-k2 c = search needs
 slice-write-k2 : tie.Need-slice-write-k2
 slice-write-k2 c = search needs
 
-cast-place : tie.Need-cast-place
-cast-place c = search needs
-
-mul-place : tie.Need-mul-place
-mul-place c = search needs
-
-slice-write-place : tie.Need-slice-write-place
-slice-write-place c = search needs
-
-cast-list : tie.Need-cast-list
-cast-list c = search needs
-
-mul-list : tie.Need-mul-list
-mul-list c = search needs
-
-slice-write-list : tie.Need-slice-write-list
-slice-write-list c = let h = at-start c .pre in put-in-room (h .0) (h .1 .0) (h .1 .1)
-
 add-settle : tie.Need-add-settle
 add-settle c = search needs
 
 settle-requires : tie.Need-settle-requires
 settle-requires c κs = let h = at-start (at-stores c) .pre in put-in-loose (h .0) (h .1 .0) (h .1 .1) _ _
+
+stand-requires : tie.Need-stand-requires
+stand-requires c κs = may-stand (after-settle (c .before .before) .settle .ensures .held)
 
 add-result : tie.Need-add-result
 add-result c = search needs
@@ -67,17 +50,17 @@ same-length-2 : tie.Need-same-length-2
 same-length-2 c = search needs
 
 same-length-3 : tie.Need-same-length-3
-same-length-3 c = after-settle c .settle .ensures .tables .agree .lengthPlace ∙ simp length-set (sym (at-first c .pre .0 .tables .agree .lengthPlace))
+same-length-3 c = search needs
 
 same-length-4 : tie.Need-same-length-4
-same-length-4 c = after-settle c .settle .ensures .tables .agree .lengthList ∙ simp length-set
+same-length-4 c = search needs
 
 returns : tie.Need-returns
 returns c =
-    let h = at-first c .pre in
-    let s = after-settle c .settle .ensures in
-    let members = s .membership ∙ put-in-members (h .0) (h .1 .0) (h .1 .1) in
-    (refl, done (h .0) (h .1 .0) (λ z. absurd (never refl z)) (tables-as (s .tables) (simp length-set)) members (s .shape))
+    let t = after-settle (after-stand c .before .before .before) in
+    let h = at-start (at-stores (t .before)) .pre in
+    let e = after-stand c .stand .ensures in
+    (refl, stood (h .0) (h .1 .0) (λ z. absurd (never refl z)) (t .settle .ensures) refl (put-in-members (h .0) (h .1 .0) (h .1 .1)) (e .0) (e .1))
 
 pub put-in-spec : {M : Type 1} → statement M
 put-in-spec =
@@ -87,14 +70,9 @@ put-in-spec =
     slice-write-k1
     mul-k2
     slice-write-k2
-    cast-place
-    mul-place
-    slice-write-place
-    cast-list
-    mul-list
-    slice-write-list
     add-settle
     settle-requires
+    stand-requires
     add-result
     same-length
     same-length-2

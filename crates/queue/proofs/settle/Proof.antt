@@ -1,22 +1,24 @@
--- Up, and from there down.
-use mathlib.Core.Path.{_∙_}
-use Rattle.queue.proofs.SiftLaws.{tables-own, tables-as}
+-- Up, and where the cell has not moved, down.
+use mathlib.Core.Path.{sym, _∙_}
 use Rattle.queue.proofs.HeapLaws.{keep-both}
+use Rattle.queue.proofs.SiftLaws.{reshaped}
+use Rattle.queue.proofs.HoleLaws.{long-list, held-as, held-own}
 use borrow.Author.Needs.{needs}
 use Rattle.queue.proofs.settle.Statement.{statement}
 use Rattle.queue.proofs.settle.Tie as tie
 
-abbrev after-sift-up : tie.After-sift-down-arg2 → tie.After-sift-up
-after-sift-up t = t .before .before .before .before .before .before
+abbrev after-sift-up : tie.After-slice-known4 → tie.After-sift-up
+after-sift-up t = t .before .before .before .before
+
+-- where the cell has not moved up
+abbrev not-up : tie.After-sift-down-arg2 → tie.Else1
+not-up t = t .before .before
 
 abbrev after-sift-down : tie.After-slice-known6 → tie.After-sift-down
 after-sift-down t = t .before .before .before .before
 
 sift-up-requires : tie.Need-sift-up-requires
 sift-up-requires c κs = search needs
-
-sift-down-requires : tie.Need-sift-down-requires
-sift-down-requires c κs = let u = after-sift-up c .sift-up .ensures in (tables-own (u .tables), u .shape)
 
 same-length : tie.Need-same-length
 same-length c = search needs
@@ -25,11 +27,39 @@ same-length-2 : tie.Need-same-length-2
 same-length-2 c = search needs
 
 returns : tie.Need-returns
-returns c =
-    let u = after-sift-up (after-sift-down c .before) .sift-up .ensures in
+returns c = let u = after-sift-up (c .before) .sift-up .ensures in reshaped u (u .shape .ordered (c .if1 .taken))
+
+sift-down-requires : tie.Need-sift-down-requires
+sift-down-requires c κs = let u = after-sift-up (not-up c .before) .sift-up .ensures in (held-own (u .held), u .shape .low)
+
+same-length-3 : tie.Need-same-length-3
+same-length-3 c = search needs
+
+same-length-4 : tie.Need-same-length-4
+same-length-4 c = search needs
+
+returns-2 : tie.Need-returns-2
+returns-2 c =
+    let stay = not-up (after-sift-down c .before) in
+    let u = after-sift-up (stay .before) .sift-up .ensures in
     let d = after-sift-down c .sift-down .ensures in
-    record { tables = tables-as (d .tables) (u .tables .agree .lengthList); membership = d .membership ∙ u .membership; shape = d .shape; keeps = keep-both (u .keeps) (d .keeps) }
+    record {
+      held = held-as (d .held) (long-list (u .held));
+      membership = d .membership ∙ u .membership;
+      shape = d .shape;
+      keeps = keep-both (u .keeps) (d .keeps);
+      unmoved = λ e. let v = u .unmoved (stay .if1 .left) in let w = d .unmoved (e ∙ sym (stay .if1 .left)) in (w .0 ∙ v .0, w .1 ∙ v .1);
+    }
 
 pub settle-spec : {M : Type 1} → statement M
 settle-spec =
-    tie.close (tie.spec sift-up-requires sift-down-requires same-length same-length-2 returns)
+    tie.close
+    (tie.spec
+    sift-up-requires
+    same-length
+    same-length-2
+    returns
+    sift-down-requires
+    same-length-3
+    same-length-4
+    returns-2)
