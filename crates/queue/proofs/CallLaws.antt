@@ -62,7 +62,7 @@ pub stood : {width room count m c first second cell start j : ℕ} {q : Bool} {k
 stood h bc z s l e ep el = rw (ep, el) (done h bc z (tables-as (s .held .tables) l) (s .membership ∙ e) (s .shape))
 
 -- Under the same keys the order is as it was, so nothing moves.
-pub same-keys : {width room count : ℕ} {k1 k2 place list k1′ k2′ place′ list′ : List ℕ} → Heap width room count k1 k2 place list
+same-keys : {width room count : ℕ} {k1 k2 place list k1′ k2′ place′ list′ : List ℕ} → Heap width room count k1 k2 place list
     → KeepsHeap (before width k1′ k2′) count place list place′ list′ → EntryKept count k1 k2 place list count k1′ k2′ place′ list′
 same-keys {width} {count = count} {k1 = k1} {list = list} {k2′ = k2′} h keeps e f _ =
     let k = keeps (subst (λ (x : List ℕ). Ordered (before width x k2′) count list) (sym e) (subst (λ (x : List ℕ). Ordered (before width k1 x) count list) (sym f) (h .ordered))) in

@@ -10,9 +10,9 @@ use Rattle.decide.specs.Order.{Order}
 use Rattle.decide.proofs.OrderLaws.{split}
 use Rattle.queue.specs.Order.{before}
 use Rattle.queue.specs.Queue.{members, Under}
-use Rattle.queue.specs.Sift.{Loose, Low, Risen, Held, Stands, placeAfter, listAfter, Keyed, Compares, Lesser}
+use Rattle.queue.specs.Sift.{Loose, Low, Risen, Held, Sifted, Stands, placeAfter, listAfter, Keyed, Compares, Lesser}
 use Rattle.queue.proofs.OrderLaws.{one-way}
-use Rattle.queue.proofs.HeapLaws.{Swapped, rise, stay-over}
+use Rattle.queue.proofs.HeapLaws.{Swapped, keep-both, rise, stay-over}
 use Rattle.queue.proofs.PlaceLaws.{apart}
 use Rattle.queue.proofs.SiftLaws.{keyed, exchanged}
 
@@ -44,7 +44,7 @@ module _ {width room count c i : ℕ} {k1 k2 place list : List ℕ} (h : Held wi
   pub held-own : Held width (length list) count c i k1 k2 place list
   held-own = held-as (sym long-list)
 
-  pub in-hand : getD (set list i c) i 0 ≡ c
+  in-hand : getD (set list i c) i 0 ≡ c
   in-hand = getD-set-same list i c 0 (omega (arith, long-list, h .tables .agree .fits, h .inside))
 
   -- The cell can be written there.
@@ -55,6 +55,13 @@ module _ {width room count c i : ℕ} {k1 k2 place list : List ℕ} (h : Held wi
     smallList = omega (arith, long-list, h .tables .agree .small);
     smallPlace = omega (arith, long-place, h .tables .agree .small);
   }
+
+  -- Once it is, the tables are as long as they were.
+  pub stood-place : {place′ : List ℕ} → place′ ≡ set place c i → length place′ ≡ room
+  stood-place e = rw e (h .tables .agree .lengthPlace)
+
+  pub stood-list : {list′ : List ℕ} → list′ ≡ set list i c → length list′ ≡ room
+  stood-list e = rw e (h .tables .agree .lengthList)
 
   -- Cell o at another place, p.
   module _ {p o : ℕ} (bp : p < count) (away : p ≡ i → ⊥) (at : o ≡ getD list p 0) where
@@ -100,6 +107,18 @@ module _ {width room count c i : ℕ} {k1 k2 place list : List ℕ} (h : Held wi
     keyed = λ x y ux bx uy by.
         rw (getD-set-other list i x c 0 (λ e. omega (arith, ux .low)), getD-set-other list i y c 0 (λ e. omega (arith, uy .low))) at (keyed (h .tables) bx by);
   }
+
+-- Not moved at first, and then from there to i.
+pub from-there : {width count cell start j i : ℕ} {k1 k2 place list place₁ list₁ place′ list′ : List ℕ} {P Q : (ℕ → ℕ → Bool) → List ℕ → Type 0}
+    → j ≡ start → Sifted width count cell start j k1 k2 place list place₁ list₁ P → Sifted width count cell j i k1 k2 place₁ list₁ place′ list′ Q
+    → Sifted width count cell start i k1 k2 place list place′ list′ Q
+from-there here a b = record {
+  held = held-as (b .held) (long-list (a .held));
+  membership = b .membership ∙ a .membership;
+  shape = b .shape;
+  keeps = keep-both (a .keeps) (b .keeps);
+  unmoved = λ e. let first = a .unmoved here in let then = b .unmoved (e ∙ sym here) in (then .0 ∙ first .0, then .1 ∙ first .1);
+}
 
 -- The lesser of the entries right under the empty place, whatever stands there.
 pub lesser-meant : {lt : ℕ → ℕ → Bool} {count i m : ℕ} {list : List ℕ} (c : ℕ) → Lesser lt count i m list → Lesser lt count i m (set list i c)

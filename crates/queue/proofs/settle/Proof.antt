@@ -1,8 +1,6 @@
 -- Up, and where the cell has not moved, down.
-use mathlib.Core.Path.{sym, _∙_}
-use Rattle.queue.proofs.HeapLaws.{keep-both}
 use Rattle.queue.proofs.SiftLaws.{reshaped}
-use Rattle.queue.proofs.HoleLaws.{long-list, held-as, held-own}
+use Rattle.queue.proofs.HoleLaws.{held-own, from-there}
 use borrow.Author.Needs.{needs}
 use Rattle.queue.proofs.settle.Statement.{statement}
 use Rattle.queue.proofs.settle.Tie as tie
@@ -41,15 +39,7 @@ same-length-4 c = search needs
 returns-2 : tie.Need-returns-2
 returns-2 c =
     let stay = not-up (after-sift-down c .before) in
-    let u = after-sift-up (stay .before) .sift-up .ensures in
-    let d = after-sift-down c .sift-down .ensures in
-    record {
-      held = held-as (d .held) (long-list (u .held));
-      membership = d .membership ∙ u .membership;
-      shape = d .shape;
-      keeps = keep-both (u .keeps) (d .keeps);
-      unmoved = λ e. let v = u .unmoved (stay .if1 .left) in let w = d .unmoved (e ∙ sym (stay .if1 .left)) in (w .0 ∙ v .0, w .1 ∙ v .1);
-    }
+    from-there (stay .if1 .left) (after-sift-up (stay .before) .sift-up .ensures) (after-sift-down c .sift-down .ensures)
 
 pub settle-spec : {M : Type 1} → statement M
 settle-spec =

@@ -1,12 +1,12 @@
 -- The cell is cut off, and the last entry, if it is another, is in hand over its place and stands where it settles from there.
-use mathlib.Core.Path.{_≡_, refl, sym, ap, _∙_}
+use mathlib.Core.Path.{_≡_, refl, sym, _∙_}
 use Prim.Native.Nat.{_+_, _-_}
 use native.Mathlib.Omega.{arith}
 use lib.ListN.{length, set}
 use Rattle.queue.specs.Order.{before}
 use Rattle.queue.specs.Queue.{absent}
 use Rattle.queue.specs.Sift.{Held, Loose}
-use Rattle.queue.proofs.HoleLaws.{long-list, held-own, may-stand}
+use Rattle.queue.proofs.HoleLaws.{long-list, held-own, may-stand, stood-place, stood-list}
 use Rattle.queue.proofs.CallLaws.{has-last, last-out, take-out-loose, take-out-members, stood}
 use borrow.Author.Needs.{needs}
 use Rattle.queue.proofs.take_out.Statement.{statement}
@@ -121,15 +121,12 @@ same-length-7 : tie.Need-same-length-7
 same-length-7 c =
     let t = after-settle (after-stand c .before .before .before) in
     let n = not-last (t .before) in
-    ap length (after-stand c .stand .ensures .0)
-    ∙ t .settle .ensures .held .tables .agree .lengthPlace
-    ∙ long-list (loose n .0)
-    ∙ sym (at-start (n .before .before .before) .pre .0 .tables .agree .lengthPlace)
+    stood-place (t .settle .ensures .held) (after-stand c .stand .ensures .0) ∙ long-list (loose n .0) ∙ sym (at-start (n .before .before .before) .pre .0 .tables .agree .lengthPlace)
 
 same-length-8 : tie.Need-same-length-8
 same-length-8 c =
     let t = after-settle (after-stand c .before .before .before) in
-    ap length (after-stand c .stand .ensures .1) ∙ t .settle .ensures .held .tables .agree .lengthList ∙ long-list (loose (not-last (t .before)) .0)
+    stood-list (t .settle .ensures .held) (after-stand c .stand .ensures .1) ∙ long-list (loose (not-last (t .before)) .0)
 
 returns-2 : tie.Need-returns-2
 returns-2 c =
