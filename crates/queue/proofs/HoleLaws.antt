@@ -1,20 +1,21 @@
 -- A cell in hand and an empty place, read as if the cell stood there: passing an entry, which is one store in list and places, is an exchange of the tables so read.
-use mathlib.Core.Path.{_≡_, sym, subst, _∙_}
+use mathlib.Core.Path.{_≡_, refl, sym, subst, _∙_}
 use mathlib.Core.Bool.{Bool, true, false}
 use mathlib.Core.List.{List}
-use Prim.Native.Nat.{ℕ, _≤_, _<_}
+use Prim.Native.Nat.{ℕ, _+_, _≤_, _<_}
 use native.Mathlib.Omega.{arith}
 use lib.ListN.{getD, set, length, length-set}
 use lib.Seq.{getD-set-same, getD-set-other, set-set, set-comm}
-use Rattle.decide.specs.Order.{Order}
+use Rattle.decide.specs.Order.{lessOr, columnFirst, Order}
 use Rattle.decide.proofs.OrderLaws.{split}
 use Rattle.queue.specs.Order.{before}
-use Rattle.queue.specs.Queue.{members, Under}
-use Rattle.queue.specs.Sift.{Loose, Low, Risen, Held, Sifted, Stands, placeAfter, listAfter, Keyed, Compares, Lesser}
+use Rattle.queue.specs.Queue.{members, Under, Ordered}
+use Rattle.queue.specs.Sift.{Loose, Low, Risen, Held, Sifted, Stands, placeAfter, listAfter, KeyOf, Compares, Lesser}
 use Rattle.queue.proofs.OrderLaws.{one-way}
-use Rattle.queue.proofs.HeapLaws.{Swapped, keep-both, rise, stay-over}
+use Rattle.queue.proofs.KeyLaws.{compared}
+use Rattle.queue.proofs.HeapLaws.{Swapped, keep-both, rise, stay-over, stay-last}
 use Rattle.queue.proofs.PlaceLaws.{apart}
-use Rattle.queue.proofs.SiftLaws.{keyed, exchanged}
+use Rattle.queue.proofs.SiftLaws.{has-key, exchanged}
 
 -- ---- a store is an exchange
 
@@ -47,6 +48,9 @@ module _ {width room count c i : ℕ} {k1 k2 place list : List ℕ} (h : Held wi
   in-hand : getD (set list i c) i 0 ≡ c
   in-hand = getD-set-same list i c 0 (omega (arith, long-list, h .tables .agree .fits, h .inside))
 
+  pub own-key : (c < length k1) × (length k2 ≡ length k1)
+  own-key = rw in-hand at (has-key (h .tables) (h .inside))
+
   -- The cell can be written there.
   pub may-stand : Stands i c place list
   may-stand = record {
@@ -68,18 +72,17 @@ module _ {width room count c i : ℕ} {k1 k2 place list : List ℕ} (h : Held wi
     as-it-is : getD (set list i c) p 0 ≡ o
     as-it-is = getD-set-other list i p c 0 away ∙ sym at
 
-    -- The two can be compared, and the comparison is that of the entries so read.
-    pub keyed-first : Keyed width k1 k2 c o
-    keyed-first = rw (in-hand, as-it-is) at (keyed (h .tables) (h .inside) bp)
+    pub other-key : (o < length k1) × (length k2 ≡ length k1)
+    other-key = rw as-it-is at (has-key (h .tables) bp)
 
-    pub keyed-second : Keyed width k1 k2 o c
-    keyed-second = rw (in-hand, as-it-is) at (keyed (h .tables) bp (h .inside))
+    -- Their keys compare as the entries so read.
+    pub first-before : {m n : ℕ} {r : Bool} → KeyOf k1 k2 c m → KeyOf k1 k2 o n → r ≡ lessOr m n (columnFirst width c o)
+        → before width k1 k2 (getD (set list i c) i 0) (getD (set list i c) p 0) ≡ r
+    first-before own other e = compared width own other in-hand as-it-is e
 
-    pub first-before : {r : Bool} → r ≡ before width k1 k2 c o → before width k1 k2 (getD (set list i c) i 0) (getD (set list i c) p 0) ≡ r
-    first-before e = cc (in-hand, as-it-is)
-
-    pub second-before : {r : Bool} → r ≡ before width k1 k2 o c → before width k1 k2 (getD (set list i c) p 0) (getD (set list i c) i 0) ≡ r
-    second-before e = cc (in-hand, as-it-is)
+    pub second-before : {m n : ℕ} {r : Bool} → KeyOf k1 k2 c m → KeyOf k1 k2 o n → r ≡ lessOr n m (columnFirst width o c)
+        → before width k1 k2 (getD (set list i c) p 0) (getD (set list i c) i 0) ≡ r
+    second-before own other e = compared width other own as-it-is in-hand e
 
     -- The other can be written at the empty place.
     pub may-pass : Stands i o place list
@@ -103,9 +106,10 @@ module _ {width room count c i : ℕ} {k1 k2 place list : List ℕ} (h : Held wi
   -- Entries right under the empty place can be compared.
   pub compares : Compares width count i k1 k2 list
   compares = record {
+    wide = h .tables .wide;
     long = omega (arith, long-list, h .tables .agree .fits);
-    keyed = λ x y ux bx uy by.
-        rw (getD-set-other list i x c 0 (λ e. omega (arith, ux .low)), getD-set-other list i y c 0 (λ e. omega (arith, uy .low))) at (keyed (h .tables) bx by);
+    lengths = own-key .1;
+    named = λ x u b. rw (getD-set-other list i x c 0 (λ e. omega (arith, u .low))) at (has-key (h .tables) b .0);
   }
 
 -- Not moved at first, and then from there to i.
@@ -147,6 +151,10 @@ pub record Rising (lt : ℕ → ℕ → Bool) (count start i : ℕ) (l : List �
   pub higher : i ≤ start
   pub rests : (i ≡ start → ⊥) → Rests lt count i l
 
+-- It has not moved yet.
+pub not-risen : {lt : ℕ → ℕ → Bool} {count i : ℕ} {l : List ℕ} → Loose lt count i l → Rising lt count i i l
+not-risen g = record { loose = g; higher = omega arith; rests = λ moved. absurd (moved refl) }
+
 module _ {lt : ℕ → ℕ → Bool} (order : Order lt) {count start : ℕ} where
   -- It comes before the entry above it, at p, and goes up: that one, and the other under it, belong under it.
   pub rises : {i p : ℕ} {l m : List ℕ} → Rising lt count start i l → Under p i → lt (getD l i 0) (getD l p 0) ≡ true → Swapped i p l m → Rising lt count start p m
@@ -171,3 +179,7 @@ module _ {lt : ℕ → ℕ → Bool} (order : Order lt) {count start : ℕ} wher
   -- It belongs no higher: it has risen.
   pub risen : {i : ℕ} {l : List ℕ} → Rising lt count start i l → Low lt count i l → Risen lt count start i l
   risen r g = record { low = g; ordered = λ moved. let q = r .rests moved in stay-over order g (q .lesser) (q .over) }
+
+  -- From the last place it can have gone up only.
+  pub risen-last : {i : ℕ} {l : List ℕ} → count ≡ start + 1 → Risen lt count start i l → Ordered lt count l
+  risen-last {i} last r = split i start (λ e. stay-last order (r .low) (omega arith)) (λ moved. r .ordered moved)

@@ -1,13 +1,13 @@
--- The tables while one cell is on its way: two entries can be compared, and what an exchange of entries leaves.
+-- The tables while one cell is on its way: each entry has a key, and what an exchange of entries leaves.
 use mathlib.Core.Path.{_≡_}
 use mathlib.Core.Bool.{Bool}
 use mathlib.Core.List.{List}
 use Prim.Native.Nat.{ℕ, _<_}
 use native.Mathlib.Omega.{arith}
-use lib.ListN.{getD, set}
+use lib.ListN.{getD, set, length}
 use Rattle.queue.specs.Queue.{members, Tables}
 use Rattle.queue.specs.Order.{before}
-use Rattle.queue.specs.Sift.{Sifted, placeAfter, listAfter, Keyed}
+use Rattle.queue.specs.Sift.{Sifted, placeAfter, listAfter}
 use Rattle.queue.proofs.HeapLaws.{Swapped}
 use Rattle.queue.proofs.PlaceLaws.{list-swapped, exchange-agree, exchange-members}
 
@@ -23,16 +23,10 @@ module _ {width room count : ℕ} {k1 k2 place list : List ℕ} (t : Tables widt
   pub tables-as : {room′ : ℕ} → room ≡ room′ → Tables width room′ count k1 k2 place list
   tables-as e = rw e at t
 
-  module _ {i j : ℕ} (bi : i < count) (bj : j < count) where
-    pub keyed : Keyed width k1 k2 (getD list i 0) (getD list j 0)
-    keyed = let p = t .agree in
-        record {
-          wide = t .wide;
-          lengths = omega (arith, t .length1, t .length2);
-          one = omega (arith, p .named i bi, t .length1);
-          other = omega (arith, p .named j bj, t .length1);
-        }
+  pub has-key : {i : ℕ} → i < count → (getD list i 0 < length k1) × (length k2 ≡ length k1)
+  has-key {i} b = (omega (arith, t .agree .named i b, t .length1), omega (arith, t .length1, t .length2))
 
+  module _ {i j : ℕ} (bi : i < count) (bj : j < count) where
     pub exchanged : {place′ list′ : List ℕ} → place′ ≡ placeAfter i j place list → list′ ≡ listAfter i j list
         → (Tables width room count k1 k2 place′ list′) × (members place′ ≡ members place) × (Swapped i j list list′)
     exchanged ep el =

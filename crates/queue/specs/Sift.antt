@@ -3,7 +3,7 @@
 use mathlib.Core.Path.{_≡_}
 use mathlib.Core.Bool.{Bool, false}
 use mathlib.Core.List.{List}
-use Prim.Native.Nat.{ℕ, _≤_, _<_}
+use Prim.Native.Nat.{ℕ, _+_, _*_, _≤_, _<_}
 use lib.ListN.{getD, set, length}
 use Rattle.queue.specs.Order.{before}
 use Rattle.queue.specs.Queue.{absent, members, Tables, Under, Ordered}
@@ -65,16 +65,17 @@ pub record Keyed (width : ℕ) (k1 k2 : List ℕ) (a b : ℕ) : Type 0 where
   pub one : a < length k1
   pub other : b < length k1
 
--- The entries at places i and j of the list can be compared.
-pub record KeyedAt (width : ℕ) (k1 k2 list : List ℕ) (i j : ℕ) : Type 0 where
-  pub one : i < length list
-  pub other : j < length list
-  pub keyed : Keyed width k1 k2 (getD list i 0) (getD list j 0)
+-- p is the key of the cell as one number, k1 in its upper half.
+pub record KeyOf (k1 k2 : List ℕ) (cell p : ℕ) : Type 0 where
+  pub number : p ≡ getD k1 cell 0 * 4294967296 + getD k2 cell 0
+  pub half : getD k2 cell 0 < 4294967296
 
 -- Any two entries right under place i can be compared. What stands at i itself may be no cell.
 pub record Compares (width count i : ℕ) (k1 k2 list : List ℕ) : Type 0 where
+  pub wide : 0 < width
   pub long : count ≤ length list
-  pub keyed : (x y : ℕ) → Under i x → x < count → Under i y → y < count → Keyed width k1 k2 (getD list x 0) (getD list y 0)
+  pub lengths : length k2 ≡ length k1
+  pub named : (x : ℕ) → Under i x → x < count → getD list x 0 < length k1
 
 -- Place m is right under place i, and no entry there comes before its entry.
 pub record Lesser (lt : ℕ → ℕ → Bool) (count i m : ℕ) (list : List ℕ) : Type 0 where

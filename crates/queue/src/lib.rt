@@ -5,11 +5,11 @@ ghost use mathlib.Core.Bool.{true, false};
 ghost use Prim.Native.Nat.{_+_, _<_, _≤_};
 ghost use lib.ListN.{length, getD, set};
 ghost use Rattle.decide.specs.Decides.{Decides};
-ghost use Rattle.decide.specs.Order.{columnFirst};
+ghost use Rattle.decide.specs.Order.{lessOr, columnFirst};
 ghost use Rattle.queue.specs.Order.{before};
 ghost use Rattle.queue.specs.Queue.{absent, Ordered, Heap, Changed, EntryKept, LeastOf};
 ghost use Rattle.queue.specs.Rules.{EntryRule, AbsentRule, QueuedRule, Lengths};
-ghost use Rattle.queue.specs.Sift.{Loose, Low, Risen, Held, Sifted, Stands, Keyed, KeyedAt, Compares, Lesser};
+ghost use Rattle.queue.specs.Sift.{Loose, Low, Risen, Held, Sifted, Stands, Keyed, KeyOf, Compares, Lesser};
 
 // The place of a cell that is not queued, and the content of an unused place of the list.
 pub const ABSENT: u16 = 65535;
@@ -52,14 +52,23 @@ fn cell_before(width: usize, k1: &[u32], k2: &[u32], a: usize, b: usize) -> bool
     tie_before(width, a, b)
 }
 
-// Does the cell at place i of the list come before the cell at place j?
-fn place_before(width: usize, k1: &[u32], k2: &[u32], list: &[u16], i: usize, j: usize) -> bool
-    requires { ⌜ KeyedAt width (now k1) (now k2) (now list) i j ⌝ }
-    ensures { λ r. ⌜ r ≡ before width (now (k1 .entry)) (now (k2 .entry)) (getD (now (list .entry)) i 0) (getD (now (list .entry)) j 0) ⌝ }
+// A cell's key as one number, k1 in its upper half: keys are ordered as these numbers are, and one test compares two.
+fn key_of(k1: &[u32], k2: &[u32], cell: usize) -> u64
+    requires { ⌜ (cell < length (now k1)) × (length (now k2) ≡ length (now k1)) ⌝ }
+    ensures { λ r. ⌜ KeyOf (now (k1 .entry)) (now (k2 .entry)) cell r ⌝ }
 {
-    let a = wide(list[i]);
-    let b = wide(list[j]);
-    cell_before(width, k1, k2, a, b)
+    k1[cell] as u64 * 4294967296 + k2[cell] as u64
+}
+
+// Does cell a, under the key p, come before cell b, under the key q?
+fn key_before(width: usize, p: u64, a: usize, q: u64, b: usize) -> bool
+    requires { ⌜ 0 < width ⌝ }
+    ensures { λ r. ⌜ r ≡ lessOr p q (columnFirst width a b) ⌝ }
+{
+    if p != q {
+        return p < q;
+    }
+    tie_before(width, a, b)
 }
 
 // Writes a cell at place i of the list, and that place at the cell.
@@ -88,11 +97,13 @@ fn sift_up(
     requires { ⌜ Loose (before width (now k1) (now k2)) count start (set (now list) start cell) ⌝ }
     ensures { λ r. ⌜ Sifted width count cell start r (now (k1 .entry)) (now (k2 .entry)) (now (place .entry)) (now (list .entry)) (now (place .exit)) (now (list .exit)) (λ lt l. Risen lt count start r l) ⌝ }
 {
+    let key = key_of(k1, k2, cell);
     let mut i = start;
     while 0 < i {
         let above = (i - 1) / 2;
         let upper = wide(list[above]);
-        if !cell_before(width, k1, k2, cell, upper) {
+        let upper_key = key_of(k1, k2, upper);
+        if !key_before(width, key, cell, upper_key, upper) {
             return i;
         }
         stand(place, list, i, upper);
@@ -110,7 +121,11 @@ fn lesser_under(width: usize, k1: &[u32], k2: &[u32], list: &[u16], count: usize
     let left = i + i + 1;
     let right = left + 1;
     if right < count {
-        if place_before(width, k1, k2, list, right, left) {
+        let a = wide(list[right]);
+        let b = wide(list[left]);
+        let p = key_of(k1, k2, a);
+        let q = key_of(k1, k2, b);
+        if key_before(width, p, a, q, b) {
             return right;
         }
     }
@@ -132,11 +147,13 @@ fn sift_down(
     requires { ⌜ Low (before width (now k1) (now k2)) count start (set (now list) start cell) ⌝ }
     ensures { λ r. ⌜ Sifted width count cell start r (now (k1 .entry)) (now (k2 .entry)) (now (place .entry)) (now (list .entry)) (now (place .exit)) (now (list .exit)) (λ lt l. Ordered lt count l) ⌝ }
 {
+    let key = key_of(k1, k2, cell);
     let mut i = start;
     while i + i + 1 < count {
         let under = lesser_under(width, k1, k2, list, count, i);
         let lesser = wide(list[under]);
-        if !cell_before(width, k1, k2, lesser, cell) {
+        let lesser_key = key_of(k1, k2, lesser);
+        if !key_before(width, lesser_key, lesser, key, cell) {
             return i;
         }
         stand(place, list, i, lesser);
@@ -168,7 +185,7 @@ fn settle(
     sift_down(width, k1, k2, place, list, count, j, cell)
 }
 
-// Puts a cell that is not queued into the queue under the key (first, second). Returns the new count.
+// Puts a cell that is not queued into the queue under the key (first, second): from the end of the list it can go up only. Returns the new count.
 pub fn put_in(
     width: usize,
     k1: &mut [u32],
@@ -188,7 +205,7 @@ pub fn put_in(
 {
     k1[cell] = first;
     k2[cell] = second;
-    let i = settle(width, k1, k2, place, list, count + 1, count, cell);
+    let i = sift_up(width, k1, k2, place, list, count + 1, count, cell);
     stand(place, list, i, cell);
     count + 1
 }

@@ -1,26 +1,28 @@
 -- The loop's invariant: what carrying the cell leaves (Sifted), where it has come up to i (Rising). The measure is i.
 use mathlib.Core.Path.{_≡_, refl, sym, _∙_}
+use Prim.Native.Nat.{_-_, _/_}
 use native.Mathlib.Omega.{arith}
-use lib.ListN.{length}
+use lib.ListN.{getD, set, length}
 use borrow.Author.Needs.{needs}
 use borrow.Author.Tests.{not-true, not-false}
-use Rattle.queue.specs.Sift.{Sifted}
+use Rattle.queue.specs.Order.{before}
+use Rattle.queue.specs.Sift.{Sifted, KeyOf}
 use Rattle.queue.proofs.OrderLaws.{before-order}
 use Rattle.queue.proofs.HeapLaws.{keep-more, above, above-inside, stay-first, stay-under}
 use Rattle.queue.proofs.SiftLaws.{reshaped}
-use Rattle.queue.proofs.HoleLaws.{Rising, long-place, long-list, keyed-first, first-before, may-pass, passed, rises, risen}
+use Rattle.queue.proofs.HoleLaws.{Rising, long-place, long-list, own-key, other-key, first-before, may-pass, passed, not-risen, rises, risen}
 use Rattle.queue.proofs.sift_up.Statement.{statement}
 use Rattle.queue.proofs.sift_up.Tie as tie
 
 abbrev Inv-loop : tie.InvT-loop
-Inv-loop width k1 k2 place₀ list₀ count start cell i₀ place list i =
+Inv-loop width k1 k2 place₀ list₀ count start cell key i₀ place list i =
     Sifted width count cell start i k1 k2 place₀ list₀ place list (λ lt l. Rising lt count start i l)
 
 abbrev μ-loop : tie.MeasureT-loop
-μ-loop width k1 k2 place₀ list₀ count start cell i₀ place list i = i
+μ-loop width k1 k2 place₀ list₀ count start cell key i₀ place list i = i
 
 abbrev at-start : tie.At-loop Inv-loop μ-loop → tie.Start Inv-loop μ-loop
-at-start t = t .before .before .before .before .before
+at-start t = t .before .before .before .before .before .before
 
 abbrev in-loop : tie.After-wide Inv-loop μ-loop → tie.In-loop Inv-loop μ-loop
 in-loop t = t .before .before
@@ -35,16 +37,17 @@ after-stand t = t .before .before .before .before
 same-place : (l : tie.At-loop Inv-loop μ-loop) → length (l .loop .place) ≡ length (at-start l .args .place .now)
 same-place l = long-place (l .loop .inv .held) ∙ sym (long-place (at-start l .pre .0))
 
+-- the key in hand
+own : (l : tie.At-loop Inv-loop μ-loop) → let a = at-start l .args in KeyOf (a .k1 .now) (a .k2 .now) (a .cell) (l .before .key-of .result)
+own l = l .before .key-of .ensures
+
+key-of-requires : tie.Need-key-of-requires Inv-loop μ-loop
+key-of-requires c κs = own-key (c .before .before .before .before .pre .0)
+
 loop-holds : tie.Need-loop-holds Inv-loop μ-loop
 loop-holds c =
-    let p = c .before .before .before .before .pre in
-    record {
-      held = p .0;
-      membership = refl;
-      shape = record { loose = p .1; higher = omega arith; rests = λ moved. absurd (moved refl) };
-      keeps = λ _. (refl, refl);
-      unmoved = λ _. (refl, refl);
-    }
+    let p = c .before .before .before .before .before .pre in
+    record { held = p .0; membership = refl; shape = not-risen (p .1); keeps = λ _. (refl, refl); unmoved = λ _. (refl, refl) }
 
 sub-above : tie.Need-sub-above Inv-loop μ-loop
 sub-above c = omega arith
@@ -58,29 +61,43 @@ slice-read-wide c = let l = c .before .before .loop .inv in omega (arith, l .hel
 wide-requires : tie.Need-wide-requires Inv-loop μ-loop
 wide-requires c κs = search needs
 
-cell-before-requires : tie.Need-cell-before-requires Inv-loop μ-loop
-cell-before-requires c κs =
+key-of-requires-2 : tie.Need-key-of-requires-2 Inv-loop μ-loop
+key-of-requires-2 c κs =
     let l = in-loop c .before .loop .inv in
     let u = above (in-loop c .loop-test .taken) in
-    keyed-first (l .held) (above-inside u (l .held .inside)) (λ e. omega (arith, u .low)) (c .wide .ensures)
+    other-key (l .held) (above-inside u (l .held .inside)) (λ e. omega (arith, u .low)) (c .wide .ensures)
+
+key-before-requires : tie.Need-key-before-requires Inv-loop μ-loop
+key-before-requires c κs = in-loop (c .before) .before .loop .inv .held .tables .wide
+
+-- the test compares the cell with the entry above, as if it stood at the empty place
+test : (t : tie.After-key-before Inv-loop μ-loop)
+    → let l = in-loop (t .before .before) .before in
+    let a = at-start l .args in
+    let meant = set (l .loop .list) (l .loop .i) (a .cell) in
+    before (a .width) (a .k1 .now) (a .k2 .now) (getD meant (l .loop .i) 0) (getD meant ((l .loop .i - 1) / 2) 0) ≡ t .key-before .result
+test t =
+    let w = t .before .before in
+    let l = in-loop w .before in
+    let u = above (in-loop w .loop-test .taken) in
+    first-before (l .loop .inv .held) (above-inside u (l .loop .inv .held .inside)) (λ e. omega (arith, u .low)) (w .wide .ensures) (own l) (t .before .key-of2 .ensures)
+    (t .key-before .ensures)
 
 same-length : tie.Need-same-length Inv-loop μ-loop
-same-length c = same-place (in-loop (c .before .before) .before)
+same-length c = same-place (in-loop (c .before .before .before) .before)
 
 same-length-2 : tie.Need-same-length-2 Inv-loop μ-loop
-same-length-2 c = long-list (in-loop (c .before .before) .before .loop .inv .held)
+same-length-2 c = long-list (in-loop (c .before .before .before) .before .loop .inv .held)
 
 returns : tie.Need-returns Inv-loop μ-loop
 returns c =
-    let w = c .before .before in
-    let l = in-loop w .before .loop .inv in
-    let u = above (in-loop w .loop-test .taken) in
-    let test = first-before (l .held) (above-inside u (l .held .inside)) (λ e. omega (arith, u .low)) (w .wide .ensures) (c .before .cell-before .ensures) in
-    reshaped l (risen (before-order _ _ _) (l .shape) (stay-under (before-order _ _ _) (l .shape .loose) u (test ∙ not-true _ (c .if1 .taken))))
+    let l = in-loop (c .before .before .before) .before .loop .inv in
+    let u = above (in-loop (c .before .before .before) .loop-test .taken) in
+    reshaped l (risen (before-order _ _ _) (l .shape) (stay-under (before-order _ _ _) (l .shape .loose) u (test (c .before) ∙ not-true _ (c .if1 .taken))))
 
 stand-requires : tie.Need-stand-requires Inv-loop μ-loop
 stand-requires c κs =
-    let w = goes-up c .before .before in
+    let w = goes-up c .before .before .before in
     let l = in-loop w .before .loop .inv in
     let u = above (in-loop w .loop-test .taken) in
     may-pass (l .held) (above-inside u (l .held .inside)) (λ e. omega (arith, u .low)) (w .wide .ensures)
@@ -92,12 +109,12 @@ loop-again : tie.Need-loop-again Inv-loop μ-loop
 loop-again c =
     let e = after-stand c .stand .ensures in
     let up = goes-up (after-stand c .before) in
-    let w = up .before .before in
+    let w = up .before .before .before in
     let l = in-loop w .before .loop .inv in
     let u = above (in-loop w .loop-test .taken) in
     let b = above-inside u (l .held .inside) in
     let s = passed (l .held) b (λ e. omega (arith, u .low)) (w .wide .ensures) (e .0) (e .1) in
-    let moves = first-before (l .held) b (λ e. omega (arith, u .low)) (w .wide .ensures) (up .before .cell-before .ensures) ∙ not-false _ (up .if1 .left) in
+    let moves = test (up .before) ∙ not-false _ (up .if1 .left) in
     record {
       held = s .0;
       membership = s .1 ∙ l .membership;
@@ -123,12 +140,14 @@ sift-up-spec =
     (tie.spec
     Inv-loop
     μ-loop
+    key-of-requires
     loop-holds
     sub-above
     mul-wide
     slice-read-wide
     wide-requires
-    cell-before-requires
+    key-of-requires-2
+    key-before-requires
     same-length
     same-length-2
     returns
