@@ -436,67 +436,98 @@ impl Session {
 
     // ---- the queue
 
-    fn place_before(&self, i: usize, j: usize) -> bool {
-        cell_before(self.width, &self.k1, &self.k2, self.list[i] as usize, self.list[j] as usize)
+    /// Does cell a come before cell b by the keys stored?
+    fn before(&self, a: usize, b: usize) -> bool {
+        cell_before(self.width, &self.k1, &self.k2, a, b)
     }
 
-    fn exchange(&mut self, i: usize, j: usize) {
-        let (a, b) = (self.list[i], self.list[j]);
-        self.list[i] = b;
-        self.list[j] = a;
-        self.place[b as usize] = i as u16;
-        self.place[a as usize] = j as u16;
+    /// Lets a cell stand at place i of the list.
+    fn stand(&mut self, i: usize, cell: usize) {
+        self.list[i] = cell as u16;
+        self.place[cell] = i as u16;
     }
 
-    fn settle(&mut self, start: usize) {
+    /// The place to which a cell goes up from `start`. The entries that it passes go down one place each.
+    fn sift_up(&mut self, start: usize, cell: usize) -> usize {
         let mut i = start;
-        while i > 0 {
+        while 0 < i {
             let above = (i - 1) / 2;
-            if !self.place_before(i, above) {
-                break;
+            let other = self.list[above] as usize;
+            if !self.before(cell, other) {
+                return i;
             }
-            self.exchange(i, above);
+            self.stand(i, other);
             i = above;
         }
-        while 2 * i + 1 < self.count {
-            let left = 2 * i + 1;
-            let right = left + 1;
-            let under = if right < self.count && self.place_before(right, left) { right } else { left };
-            if !self.place_before(under, i) {
-                break;
-            }
-            self.exchange(i, under);
-            i = under;
-        }
+        i
     }
 
+    /// The place of the lesser entry right under place i, which has one there.
+    fn lesser_under(&self, i: usize) -> usize {
+        let left = 2 * i + 1;
+        let right = left + 1;
+        if right < self.count && self.before(self.list[right] as usize, self.list[left] as usize) {
+            return right;
+        }
+        left
+    }
+
+    /// The place to which a cell goes down from `start`. The entries that it passes go up one place each.
+    fn sift_down(&mut self, start: usize, cell: usize) -> usize {
+        let mut i = start;
+        while 2 * i + 1 < self.count {
+            let under = self.lesser_under(i);
+            let other = self.list[under] as usize;
+            if !self.before(other, cell) {
+                return i;
+            }
+            self.stand(i, other);
+            i = under;
+        }
+        i
+    }
+
+    /// The place where a cell belongs that is carried from place i, higher or lower. The cell itself is not written there.
+    fn settle(&mut self, i: usize, cell: usize) -> usize {
+        let j = self.sift_up(i, cell);
+        self.sift_down(j, cell)
+    }
+
+    /// Puts a cell that is not queued into the queue.
     fn put_in(&mut self, cell: usize, first: u32, second: u32) {
         self.k1[cell] = first;
         self.k2[cell] = second;
-        self.place[cell] = self.count as u16;
-        self.list[self.count] = cell as u16;
         self.count += 1;
-        self.settle(self.count - 1);
+        let j = self.settle(self.count - 1, cell);
+        self.stand(j, cell);
     }
 
+    /// Puts a queued cell under another key.
     fn put_under(&mut self, cell: usize, first: u32, second: u32) {
+        let i = self.place[cell] as usize;
         self.k1[cell] = first;
         self.k2[cell] = second;
-        self.settle(self.place[cell] as usize);
+        let j = self.settle(i, cell);
+        if j != i {
+            self.stand(j, cell);
+        }
     }
 
+    /// Takes a queued cell out of the queue: the last entry of the list is carried from its place to where it belongs.
     fn take_out(&mut self, cell: usize) {
         let i = self.place[cell] as usize;
         let last = self.count - 1;
-        self.exchange(i, last);
+        let moved = self.list[last] as usize;
         self.k1[cell] = 0;
         self.k2[cell] = 0;
         self.place[cell] = ABSENT;
         self.list[last] = ABSENT;
         self.count = last;
-        if i < last {
-            self.settle(i);
+        if last <= i {
+            return;
         }
+        let j = self.settle(i, moved);
+        self.stand(j, moved);
     }
 
     // ---- a cell's entry
