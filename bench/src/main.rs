@@ -18,6 +18,9 @@ use plain::Answer;
 use rongdhesi::lent;
 use scenes::{Kind, Scene};
 
+/// The queue's writes are counted in `writes.rs`, and cost nothing here.
+fn wrote(_numbers: usize) {}
+
 /// The library's side of a scene.
 struct Library {
     session: rongdhesi::Session,
@@ -235,18 +238,11 @@ fn measure_scenes() {
     println!("| Plan | Kind | Doors a turn | Steps a search | A* expansions | Search: library | Rust, checked | Rust, unchecked | A* | library / Rust checked | library / A* | Change: library | Rust, checked | Rust, unchecked | library / Rust checked |");
     println!("|---|---|---|---|---|---|---|---|---|---|---|---|---|---|---|");
     let (mut searches, mut changes) = (Vec::new(), Vec::new());
-    let plans = [64, 32, 16].into_iter().flat_map(|side| [Kind::Shut, Kind::Maze, Kind::Rooms].map(|kind| (side, kind)));
-    let mut seed = 0;
-    for (side, kind) in plans.chain([(64, Kind::Corridors)]) {
-        for doors in [0, 1, 10, 100] {
-            seed += 1;
-            let turns = if doors == 100 { 40 } else { 200 };
-            let scene = scenes::draw(side, kind, doors, turns, seed);
-            let measured = measure(&scene);
-            print_line(&scene, &measured);
-            searches.push(to_rust_checked(measured.search));
-            changes.extend(measured.change.map(to_rust_checked));
-        }
+    for scene in scenes::all() {
+        let measured = measure(&scene);
+        print_line(&scene, &measured);
+        searches.push(to_rust_checked(measured.search));
+        changes.extend(measured.change.map(to_rust_checked));
     }
     println!();
     println!("library / Rust checked, geometric mean: search {}, change {}.", mean_of(&searches), mean_of(&changes));

@@ -1,6 +1,9 @@
 //! The library's calls once more in plain Rust: the same steps over the same flat tables, with nothing proved.
 //! `CHECKED` says whether a change and a search first test that the tables are sound, and a drill that is written whether
 //! it is refused, as the library does. The reasons are always asked of a plan that is tested first.
+//! The program around it has a function `wrote`, which is told each time how many numbers the queue writes to list and places.
+
+use crate::wrote;
 
 pub const INFINITE: u32 = u32::MAX;
 const ABSENT: u16 = u16::MAX;
@@ -443,6 +446,7 @@ impl Session {
 
     /// Lets a cell stand at place i of the list.
     fn stand(&mut self, i: usize, cell: usize) {
+        wrote(2);
         self.list[i] = cell as u16;
         self.place[cell] = i as u16;
     }
@@ -520,6 +524,7 @@ impl Session {
         let moved = self.list[last] as usize;
         self.k1[cell] = 0;
         self.k2[cell] = 0;
+        wrote(2);
         self.place[cell] = ABSENT;
         self.list[last] = ABSENT;
         self.count = last;

@@ -294,3 +294,10 @@ pub fn draw(side: usize, kind: Kind, doors: usize, turns: usize, seed: u64) -> S
     }
     Scene { side, kind, doors, plan, turns: drawn }
 }
+
+/// The scenes that are played: plans of three sizes and three kinds, then corridors, each with 0, 1, 10 and 100 doors a turn.
+pub fn all() -> impl Iterator<Item = Scene> {
+    let plans = [64, 32, 16].into_iter().flat_map(|side| [Kind::Shut, Kind::Maze, Kind::Rooms].map(|kind| (side, kind)));
+    let all = plans.chain([(64, Kind::Corridors)]).flat_map(|(side, kind)| [0, 1, 10, 100].map(|doors| (side, kind, doors)));
+    all.zip(1..).map(|((side, kind, doors), seed)| draw(side, kind, doors, if doors == 100 { 40 } else { 200 }, seed))
+}
