@@ -147,8 +147,29 @@ fn play(scene: &Scene, player: &mut dyn Player) -> Played {
     played
 }
 
+/// Plays a scene by the library once, and gives the time of the check alone before each search: a change of cell N, which is
+/// refused by 3 after the whole check. It finds the tables that the search's own check then finds.
+fn play_checks(scene: &Scene) -> Vec<u64> {
+    let cells = scene.side * scene.side;
+    let first = &scene.turns[0];
+    let mut library = Library::open(scene.side, first.hunter, first.target, &scene.plan);
+    let mut way = vec![0; cells];
+    let mut times = Vec::new();
+    for turn in &scene.turns {
+        for change in &turn.changes {
+            library.change(change.cell, change.direction, change.cost);
+        }
+        let began = Instant::now();
+        let reply = library.change_move(cells, 0, 1);
+        times.push(began.elapsed().as_nanos() as u64);
+        assert_eq!(reply.refusal, 3);
+        library.search(turn.hunter, turn.target, &mut way);
+    }
+    times
+}
+
 /// The sum of all times of a scene, each at its least in any of the runs, so that what else the machine did is left out.
-fn least(runs: &[Played], times: fn(&Played) -> &[u64]) -> f64 {
+fn least<T>(runs: &[T], times: fn(&T) -> &[u64]) -> f64 {
     let all = 0..times(&runs[0]).len();
     all.map(|at| runs.iter().map(|run| times(run)[at]).min().expect("a run")).sum::<u64>() as f64
 }
@@ -166,20 +187,32 @@ fn player(scene: &Scene, which: usize) -> Box<dyn Player> {
 }
 
 /// What a scene took, player by player: the steps of a search, and the times of a search and of a change, if there were
-/// changes, in microseconds.
+/// changes, in microseconds; and the time of the library's check alone before a search.
 struct Measured {
     steps: [f64; 4],
     search: [f64; 4],
     change: Option<[f64; 4]>,
+    check: f64,
 }
 
-/// Plays a scene by all in turn, five times.
+impl Measured {
+    /// The time of a step without the check, in nanoseconds: the library's, that of Rust, and an expansion of A*.
+    fn step(&self) -> [f64; 3] {
+        let Measured { steps, search, .. } = self;
+        [(search[0] - self.check) / steps[0], search[2] / steps[2], search[3] / steps[3]].map(|time| time * 1e3)
+    }
+}
+
+/// Plays a scene by all in turn, five times. The check alone is timed in a play of its own, so that no search that is timed
+/// finds its tables just checked.
 fn measure(scene: &Scene) -> Measured {
     let mut runs: [Vec<Played>; 4] = Default::default();
+    let mut checks = Vec::new();
     for _ in 0..5 {
         for (which, runs) in runs.iter_mut().enumerate() {
             runs.push(play(scene, &mut *player(scene, which)));
         }
+        checks.push(play_checks(scene));
     }
     let first = runs.each_ref().map(|runs| &runs[0]);
     assert!(first.iter().all(|played| played.costs == first[0].costs), "the answers differ");
@@ -192,6 +225,7 @@ fn measure(scene: &Scene) -> Measured {
         steps: first.map(|played| played.steps as f64 / turns),
         search: searches.map(|time| time / turns / 1e3),
         change: (calls > 0).then(|| changes.map(|time| time / calls as f64 / 1e3)),
+        check: least(&checks, Vec::as_slice) / turns / 1e3,
     }
 }
 
@@ -202,7 +236,7 @@ fn to_rust_checked(times: [f64; 4]) -> f64 {
 
 /// Prints a scene's line.
 fn print_line(scene: &Scene, measured: &Measured) {
-    let Measured { steps, search, change } = measured;
+    let Measured { steps, search, change, .. } = measured;
     print!(
         "| {0} by {0} | {1} | {2} | {3:.1} | {4:.1} | {5:.2} | {6:.2} | {7:.2} | {8:.2} | {9:.2} | {10:.2} |",
         scene.side,
@@ -234,18 +268,45 @@ fn mean_of(ratios: &[f64]) -> String {
 }
 
 /// Measures all scenes and prints their table.
-fn measure_scenes() {
+fn measure_scenes() -> Vec<(Scene, Measured)> {
     println!("| Plan | Kind | Doors a turn | Steps a search | A* expansions | Search: library | Rust, checked | Rust, unchecked | A* | library / Rust checked | library / A* | Change: library | Rust, checked | Rust, unchecked | library / Rust checked |");
     println!("|---|---|---|---|---|---|---|---|---|---|---|---|---|---|---|");
-    let (mut searches, mut changes) = (Vec::new(), Vec::new());
+    let mut all = Vec::new();
     for scene in scenes::all() {
         let measured = measure(&scene);
         print_line(&scene, &measured);
-        searches.push(to_rust_checked(measured.search));
-        changes.extend(measured.change.map(to_rust_checked));
+        all.push((scene, measured));
     }
+    let searches: Vec<f64> = all.iter().map(|(_, measured)| to_rust_checked(measured.search)).collect();
+    let changes: Vec<f64> = all.iter().filter_map(|(_, measured)| measured.change.map(to_rust_checked)).collect();
     println!();
     println!("library / Rust checked, geometric mean: search {}, change {}.", mean_of(&searches), mean_of(&changes));
+    all
+}
+
+/// Prints the time of a step beside that of an expansion of A*, for the largest plans.
+fn print_steps(all: &[(Scene, Measured)]) {
+    println!("| Plan | Kind | Doors a turn | Step: library | Rust, unchecked | A*, an expansion | library / A* | Rust unchecked / A* |");
+    println!("|---|---|---|---|---|---|---|---|");
+    let (mut ours, mut theirs) = (Vec::new(), Vec::new());
+    for (scene, measured) in all.iter().filter(|(scene, _)| scene.side == 64) {
+        let [library, rust, a_star] = measured.step();
+        ours.push(library / a_star);
+        theirs.push(rust / a_star);
+        println!(
+            "| {0} by {0} | {1} | {2} | {3:.0} | {4:.0} | {5:.0} | {6:.2} | {7:.2} |",
+            scene.side,
+            scene.kind.name(),
+            scene.doors,
+            library,
+            rust,
+            a_star,
+            library / a_star,
+            rust / a_star
+        );
+    }
+    println!();
+    println!("step / expansion of A*, geometric mean: library {}, Rust unchecked {}.", mean_of(&ours), mean_of(&theirs));
 }
 
 /// The least time of one run out of so many, in microseconds.
@@ -400,7 +461,11 @@ fn measure_reasons() {
 fn main() {
     println!("Times of a call in microseconds, each at its least of five runs, in which the four take turns.");
     println!();
-    measure_scenes();
+    let all = measure_scenes();
+    println!();
+    println!("A step without the check, in nanoseconds: the search less the check alone, by its steps; for A* the search by its expansions.");
+    println!();
+    print_steps(&all);
     println!();
     println!("The check alone, the least of 2,000 runs:");
     println!();
