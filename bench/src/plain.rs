@@ -233,6 +233,21 @@ fn tie_before(width: usize, a: usize, b: usize) -> bool {
     a < b
 }
 
+/// A cell's key as one number, k1 in its upper half.
+#[inline(always)]
+fn key_of(k1: &[u32], k2: &[u32], cell: usize) -> u64 {
+    (k1[cell] as u64) << 32 | k2[cell] as u64
+}
+
+/// Does cell a, under the key p, come before cell b, under the key q?
+#[inline(always)]
+fn key_before(width: usize, p: u64, a: usize, q: u64, b: usize) -> bool {
+    if p != q {
+        return p < q;
+    }
+    tie_before(width, a, b)
+}
+
 /// Does cell a come before cell b in the queue?
 #[inline(always)]
 fn cell_before(width: usize, k1: &[u32], k2: &[u32], a: usize, b: usize) -> bool {
@@ -439,9 +454,8 @@ impl Session {
 
     // ---- the queue
 
-    /// Does cell a come before cell b by the keys stored?
-    fn before(&self, a: usize, b: usize) -> bool {
-        cell_before(self.width, &self.k1, &self.k2, a, b)
+    fn key_of(&self, cell: usize) -> u64 {
+        key_of(&self.k1, &self.k2, cell)
     }
 
     /// Lets a cell stand at place i of the list.
@@ -453,14 +467,15 @@ impl Session {
 
     /// The place to which a cell goes up from `start`. The entries that it passes go down one place each.
     fn sift_up(&mut self, start: usize, cell: usize) -> usize {
+        let key = self.key_of(cell);
         let mut i = start;
         while 0 < i {
             let above = (i - 1) / 2;
-            let other = self.list[above] as usize;
-            if !self.before(cell, other) {
+            let upper = self.list[above] as usize;
+            if !key_before(self.width, key, cell, self.key_of(upper), upper) {
                 return i;
             }
-            self.stand(i, other);
+            self.stand(i, upper);
             i = above;
         }
         i
@@ -470,39 +485,47 @@ impl Session {
     fn lesser_under(&self, i: usize) -> usize {
         let left = 2 * i + 1;
         let right = left + 1;
-        if right < self.count && self.before(self.list[right] as usize, self.list[left] as usize) {
-            return right;
+        if right < self.count {
+            let (a, b) = (self.list[right] as usize, self.list[left] as usize);
+            if key_before(self.width, self.key_of(a), a, self.key_of(b), b) {
+                return right;
+            }
         }
         left
     }
 
     /// The place to which a cell goes down from `start`. The entries that it passes go up one place each.
     fn sift_down(&mut self, start: usize, cell: usize) -> usize {
+        let key = self.key_of(cell);
         let mut i = start;
         while 2 * i + 1 < self.count {
             let under = self.lesser_under(i);
-            let other = self.list[under] as usize;
-            if !self.before(other, cell) {
+            let lesser = self.list[under] as usize;
+            if !key_before(self.width, self.key_of(lesser), lesser, key, cell) {
                 return i;
             }
-            self.stand(i, other);
+            self.stand(i, lesser);
             i = under;
         }
         i
     }
 
     /// The place where a cell belongs that is carried from place i, higher or lower. The cell itself is not written there.
+    /// One that went up does not go down again.
     fn settle(&mut self, i: usize, cell: usize) -> usize {
         let j = self.sift_up(i, cell);
+        if j != i {
+            return j;
+        }
         self.sift_down(j, cell)
     }
 
-    /// Puts a cell that is not queued into the queue.
+    /// Puts a cell that is not queued into the queue: from the end of the list it can go up only.
     fn put_in(&mut self, cell: usize, first: u32, second: u32) {
         self.k1[cell] = first;
         self.k2[cell] = second;
         self.count += 1;
-        let j = self.settle(self.count - 1, cell);
+        let j = self.sift_up(self.count - 1, cell);
         self.stand(j, cell);
     }
 
