@@ -1,5 +1,6 @@
 // The queue: an indexed binary heap of cells, by (k1, k2, column, row), in tables that the caller lends.
 // `list` holds the heap and `place` says where in it each cell is, so a call takes time by the logarithm of the count and passes over no table.
+// The tables may stand in slow memory: a cell that moves is carried in hand, each entry that it passes is written once, and it itself once, where it stops.
 ghost use mathlib.Core.Path.{_≡_};
 ghost use mathlib.Core.Bool.{true, false};
 ghost use Prim.Native.Nat.{_+_, _<_, _≤_};

@@ -30,6 +30,9 @@ at-loop t = t .before .before .before
 abbrev after-lesser-under : tie.After-wide Inv-loop μ-loop → tie.After-lesser-under Inv-loop μ-loop
 after-lesser-under t = t .before .before
 
+abbrev after-wide : tie.After-key-before Inv-loop μ-loop → tie.After-wide Inv-loop μ-loop
+after-wide t = t .before .before
+
 -- where an entry under the empty place comes before the cell
 abbrev goes-down : tie.After-stand-arg2 Inv-loop μ-loop → tie.Else1 Inv-loop μ-loop
 goes-down t = t .before .before
@@ -82,45 +85,45 @@ key-before-requires c κs = at-loop (after-lesser-under (c .before)) .loop .inv 
 
 -- the test compares the lesser entry under the empty place with the cell, as if it stood there
 test : (t : tie.After-key-before Inv-loop μ-loop)
-    → let u = after-lesser-under (t .before .before) in
+    → let u = after-lesser-under (after-wide t) in
     let l = at-loop u in
     let a = at-start l .args in
     let meant = set (l .loop .list) (l .loop .i) (a .cell) in
     before (a .width) (a .k1 .now) (a .k2 .now) (getD meant (u .lesser-under .result) 0) (getD meant (l .loop .i) 0) ≡ t .key-before .result
 test t =
-    let w = t .before .before in
+    let w = after-wide t in
     let n = after-lesser-under w .lesser-under .ensures in
     let l = at-loop (after-lesser-under w) in
     second-before (l .loop .inv .held) (n .inside) (λ e. omega (arith, n .under .low)) (w .wide .ensures) (own l) (t .before .key-of2 .ensures) (t .key-before .ensures)
 
 same-length : tie.Need-same-length Inv-loop μ-loop
-same-length c = same-place (at-loop (after-lesser-under (c .before .before .before)))
+same-length c = same-place (at-loop (after-lesser-under (after-wide (c .before))))
 
 same-length-2 : tie.Need-same-length-2 Inv-loop μ-loop
-same-length-2 c = long-list (at-loop (after-lesser-under (c .before .before .before)) .loop .inv .held)
+same-length-2 c = long-list (at-loop (after-lesser-under (after-wide (c .before))) .loop .inv .held)
 
 returns : tie.Need-returns Inv-loop μ-loop
 returns c =
-    let u = after-lesser-under (c .before .before .before) in
+    let u = after-lesser-under (after-wide (c .before)) in
     let l = at-loop u .loop .inv in
     reshaped l (stay-over (before-order _ _ _) (l .shape .0) (lesser-meant _ (u .lesser-under .ensures)) (test (c .before) ∙ not-true _ (c .if1 .taken)))
 
 stand-requires : tie.Need-stand-requires Inv-loop μ-loop
 stand-requires c κs =
-    let w = goes-down c .before .before .before in
+    let w = after-wide (goes-down c .before) in
     let n = after-lesser-under w .lesser-under .ensures in
     may-pass (at-loop (after-lesser-under w) .loop .inv .held) (n .inside) (λ e. omega (arith, n .under .low)) (w .wide .ensures)
 
 loop-less : tie.Need-loop-less Inv-loop μ-loop
 loop-less c =
-    let n = after-lesser-under (goes-down (after-stand c .before) .before .before .before) .lesser-under .ensures in
+    let n = after-lesser-under (after-wide (goes-down (after-stand c .before) .before)) .lesser-under .ensures in
     omega (arith, n .inside, n .under .low)
 
 loop-again : tie.Need-loop-again Inv-loop μ-loop
 loop-again c =
     let e = after-stand c .stand .ensures in
     let down = goes-down (after-stand c .before) in
-    let w = down .before .before .before in
+    let w = after-wide (down .before) in
     let n = after-lesser-under w .lesser-under .ensures in
     let l = at-loop (after-lesser-under w) .loop .inv in
     let s = passed (l .held) (n .inside) (λ e. omega (arith, n .under .low)) (w .wide .ensures) (e .0) (e .1) in

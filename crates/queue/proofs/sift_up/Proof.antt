@@ -27,6 +27,9 @@ at-start t = t .before .before .before .before .before .before
 abbrev in-loop : tie.After-wide Inv-loop μ-loop → tie.In-loop Inv-loop μ-loop
 in-loop t = t .before .before
 
+abbrev after-wide : tie.After-key-before Inv-loop μ-loop → tie.After-wide Inv-loop μ-loop
+after-wide t = t .before .before
+
 -- where the cell comes before the entry above the empty place
 abbrev goes-up : tie.After-stand-arg2 Inv-loop μ-loop → tie.Else1 Inv-loop μ-loop
 goes-up t = t .before .before
@@ -72,32 +75,32 @@ key-before-requires c κs = in-loop (c .before) .before .loop .inv .held .tables
 
 -- the test compares the cell with the entry above, as if it stood at the empty place
 test : (t : tie.After-key-before Inv-loop μ-loop)
-    → let l = in-loop (t .before .before) .before in
+    → let l = in-loop (after-wide t) .before in
     let a = at-start l .args in
     let meant = set (l .loop .list) (l .loop .i) (a .cell) in
     before (a .width) (a .k1 .now) (a .k2 .now) (getD meant (l .loop .i) 0) (getD meant ((l .loop .i - 1) / 2) 0) ≡ t .key-before .result
 test t =
-    let w = t .before .before in
+    let w = after-wide t in
     let l = in-loop w .before in
     let u = above (in-loop w .loop-test .taken) in
     first-before (l .loop .inv .held) (above-inside u (l .loop .inv .held .inside)) (λ e. omega (arith, u .low)) (w .wide .ensures) (own l) (t .before .key-of2 .ensures)
     (t .key-before .ensures)
 
 same-length : tie.Need-same-length Inv-loop μ-loop
-same-length c = same-place (in-loop (c .before .before .before) .before)
+same-length c = same-place (in-loop (after-wide (c .before)) .before)
 
 same-length-2 : tie.Need-same-length-2 Inv-loop μ-loop
-same-length-2 c = long-list (in-loop (c .before .before .before) .before .loop .inv .held)
+same-length-2 c = long-list (in-loop (after-wide (c .before)) .before .loop .inv .held)
 
 returns : tie.Need-returns Inv-loop μ-loop
 returns c =
-    let l = in-loop (c .before .before .before) .before .loop .inv in
-    let u = above (in-loop (c .before .before .before) .loop-test .taken) in
+    let l = in-loop (after-wide (c .before)) .before .loop .inv in
+    let u = above (in-loop (after-wide (c .before)) .loop-test .taken) in
     reshaped l (risen (before-order _ _ _) (l .shape) (stay-under (before-order _ _ _) (l .shape .loose) u (test (c .before) ∙ not-true _ (c .if1 .taken))))
 
 stand-requires : tie.Need-stand-requires Inv-loop μ-loop
 stand-requires c κs =
-    let w = goes-up c .before .before .before in
+    let w = after-wide (goes-up c .before) in
     let l = in-loop w .before .loop .inv in
     let u = above (in-loop w .loop-test .taken) in
     may-pass (l .held) (above-inside u (l .held .inside)) (λ e. omega (arith, u .low)) (w .wide .ensures)
@@ -109,7 +112,7 @@ loop-again : tie.Need-loop-again Inv-loop μ-loop
 loop-again c =
     let e = after-stand c .stand .ensures in
     let up = goes-up (after-stand c .before) in
-    let w = up .before .before .before in
+    let w = after-wide (up .before) in
     let l = in-loop w .before .loop .inv in
     let u = above (in-loop w .loop-test .taken) in
     let b = above-inside u (l .held .inside) in
