@@ -163,7 +163,7 @@ fn sift_down(
     i
 }
 
-// The place where the cell in hand belongs, be it higher or lower than the empty place i. Neither is written there yet.
+// The place where the cell in hand belongs, be it higher or lower than the empty place i. The cell is not written there yet.
 // A cell that went up comes before all that it passed, so it does not go down again.
 fn settle(
     width: usize,
