@@ -454,6 +454,7 @@ impl Session {
 
     // ---- the queue
 
+    /// The key that a cell has in the queue, as one number.
     fn key_of(&self, cell: usize) -> u64 {
         key_of(&self.k1, &self.k2, cell)
     }
