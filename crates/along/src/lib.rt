@@ -8,7 +8,7 @@ ghost use Rattle.along.specs.Along.{Listed, Joined, StepByte, AllOpen, Runs, Alo
 use plan;
 
 // How many costs were written, or refused with document 01's number.
-#[derive(Drop)]
+#[derive(Clone, Copy)]
 pub enum Running {
     Costs(usize),
     Refused(u8),

@@ -7,7 +7,7 @@ use entries::Aim;
 use tables;
 
 // Caught at a cell; no way, after so many steps; a way: its cost, the steps, the number of its cells; or refused with document 01's number.
-#[derive(Drop)]
+#[derive(Clone, Copy)]
 pub enum Answer {
     Caught(usize),
     NoWay(usize),

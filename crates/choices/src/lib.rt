@@ -89,7 +89,7 @@ fn short_of(a: Aim, y: u32, p: u32, q: u32) -> bool
 }
 
 // Which cell the search takes next, if it goes on.
-#[derive(Drop)]
+#[derive(Clone, Copy)]
 pub enum Choice {
     Done,
     On(usize),

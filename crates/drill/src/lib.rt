@@ -16,14 +16,14 @@ use session;
 use tables::Session;
 
 // What an action leaves: the record, and how much of the text is used.
-#[derive(Drop)]
+#[derive(Clone, Copy)]
 pub struct Turned {
     pub session: Session,
     pub used: usize,
 }
 
 // What playing leaves: the record, the place in the file, the actions left over, and how much of the text is used.
-#[derive(Drop)]
+#[derive(Clone, Copy)]
 pub struct Played {
     pub session: Session,
     pub at: usize,

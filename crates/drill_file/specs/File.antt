@@ -1,7 +1,7 @@
 -- The drill file. "From the front: 4N plan bytes, then actions of 5 bytes, then a trailer of 12 bytes that points back."
 use Rattle.std.specs.Prelude.{Bool, true, false, List, [], ◌∷◌, ℕ, zero, suc, ◌+◌, ◌*◌, ◌-◌, ◌≤◌, length, get_or}
 use Rattle.std.proofs.Math.Bool.{Bool-discrete}
-use Rattle.std.proofs.Math.Logic.{Dec·and}
+use Rattle.std.proofs.Math.Logic.Dec
 use Rattle.std.proofs.Math.Decide.{ℕ_discrete, dec_le}
 use Rattle.decide.specs.Choose.{choose}
 use Rattle.plan.specs.Cells.{Size}
@@ -46,10 +46,10 @@ cells t = t.height * t.width
 unfoldable pub action_of : ℕ → ℕ → ℕ → ℕ → Action
 action_of kind cell d cost =
     choose (ℕ_discrete kind 1) (Change cell d cost)
-    (choose (Dec·and (ℕ_discrete d 0) (ℕ_discrete cost 0))
+    (choose (Dec.and (ℕ_discrete d 0) (ℕ_discrete cost 0))
     (choose (ℕ_discrete kind 2) (Hunter cell)
     (choose (ℕ_discrete kind 3) (Target cell)
-    (choose (Dec·and (ℕ_discrete kind 4) (ℕ_discrete cell 0)) Search
+    (choose (Dec.and (ℕ_discrete kind 4) (ℕ_discrete cell 0)) Search
     Bad)))
     Bad)
 
@@ -87,7 +87,7 @@ well_formed (Search ∷ l) = well_formed l
 
 -- Whether width and height are each 1 to 64.
 unfoldable pub is_size : (width height : ℕ) → Dec (Size width height)
-is_size width height = at (Dec·and (Dec·and (dec_le 1 width) (dec_le width 64)) (Dec·and (dec_le 1 height) (dec_le height 64)))
+is_size width height = at (Dec.and (Dec.and (dec_le 1 width) (dec_le width 64)) (Dec.and (dec_le 1 height) (dec_le height 64)))
   where
     at : Dec (((1 ≤ width) × (width ≤ 64)) × ((1 ≤ height) × (height ≤ 64))) → Dec (Size width height)
     at (yes h) = yes (record { wide = h.0.0; narrow = h.0.1; high = h.1.0; low = h.1.1 })
@@ -96,9 +96,9 @@ is_size width height = at (Dec·and (Dec·and (dec_le 1 width) (dec_le width 64)
 -- "Order: length under 12 or over 65,536 (8); size (1); offset not 4N, or length not offset + 5 × actions + 12 (8); any badly formed action (8)": 0 where the form is right.
 unfoldable pub form_number : List ℕ → ℕ
 form_number file =
-    choose (Dec·and (dec_le 12 (length file)) (dec_le (length file) 65536))
+    choose (Dec.and (dec_le 12 (length file)) (dec_le (length file) 65536))
     (choose (is_size (trailer_of file).width (trailer_of file).height)
-    (choose (Dec·and (ℕ_discrete (trailer_of file).offset (4 * cells (trailer_of file))) (ℕ_discrete (length file) ((trailer_of file).offset + 5 * (trailer_of file).actions + 12)))
+    (choose (Dec.and (ℕ_discrete (trailer_of file).offset (4 * cells (trailer_of file))) (ℕ_discrete (length file) ((trailer_of file).offset + 5 * (trailer_of file).actions + 12)))
     (choose (Bool-discrete (well_formed (actions_of file)) true) 0
     8)
     8)

@@ -1,7 +1,7 @@
 -- The number by which a drill file is refused, 0 if none: its form, "then open's checks", each rule as a test, in the order of checking.
 use Rattle.std.specs.Prelude.{◌≡◌, List, ℕ, zero, suc, ◌*◌, ◌<◌, take}
 use Rattle.std.proofs.Common.{inl, inr, ⊎_elim, arith}
-use Rattle.std.proofs.Math.Logic.{Dec·and}
+use Rattle.std.proofs.Math.Logic.Dec
 use Rattle.std.proofs.Math.Decide.{ℕ_discrete, dec_lt}
 use Rattle.decide.specs.Choose.{choose}
 use Rattle.plan.specs.Cells.{Stays, stays}
@@ -58,7 +58,7 @@ edges_hold p = at (below (λ s. below (edge_holds p s) 4) (cells p))
 -- "then open's checks": "a given cell is N or more" (3), "at open: such a byte is not 255" (4), "byte 0 or 251 to 254" (5).
 unfoldable pub open_number : Plan → ℕ → ℕ → ℕ
 open_number p hunter target =
-    choose (Dec·and (dec_lt hunter (cells p)) (dec_lt target (cells p)))
+    choose (Dec.and (dec_lt hunter (cells p)) (dec_lt target (cells p)))
     (choose (edges_hold p)
     (choose (bytes_hold p) 0
     5)

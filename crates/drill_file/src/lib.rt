@@ -5,7 +5,7 @@ ghost use Rattle.drill_file.specs.File.{two, trailer_of, trailer_in, action_of, 
 use plan;
 
 // What the last 12 bytes say.
-#[derive(Drop)]
+#[derive(Clone, Copy)]
 pub struct Trailer {
     pub width: usize,
     pub height: usize,
@@ -16,7 +16,7 @@ pub struct Trailer {
 }
 
 // A change of cell, direction and cost; the hunter or the target placed on a cell; a search; or badly formed.
-#[derive(Drop)]
+#[derive(Clone, Copy)]
 pub enum Action {
     Change(usize, usize, u8),
     Hunter(usize),
@@ -110,7 +110,7 @@ fn action_at(file: &[u8], at: usize) -> Action
 }
 
 // A reader holds the file and its place in it.
-#[derive(Drop)]
+#[derive(Clone, Copy)]
 pub struct Reader<'a> {
     pub file: &'a [u8],
     pub at: usize,

@@ -16,7 +16,7 @@ const ACTION: usize = 5;
 const TRAILER: usize = 12;
 
 // How many bytes were written, or refused with document 01's number.
-#[derive(Drop)]
+#[derive(Clone, Copy)]
 pub enum Written {
     Bytes(usize),
     Refused(u8),

@@ -20,7 +20,7 @@ use tables;
 use tables::Session;
 
 // What a search goes by: the plan's size, the hunter and the target taken over, the target's row and column, and km.
-#[derive(Drop)]
+#[derive(Clone, Copy)]
 pub struct Aim {
     pub width: usize,
     pub height: usize,
@@ -97,14 +97,14 @@ pub fn set_right(
 }
 
 // A sum, and the parent byte of the move that gives it.
-#[derive(Drop)]
+#[derive(Clone, Copy)]
 pub struct Found {
     pub rhs: u32,
     pub parent: u8,
 }
 
 // What a move asks of the cell that it enters: to keep its rhs and parent, or that this cell takes these.
-#[derive(Drop)]
+#[derive(Clone, Copy)]
 pub enum Asked {
     Keeps,
     Takes(usize, Found),

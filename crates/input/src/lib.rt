@@ -2,7 +2,7 @@
 ghost use Rattle.input.specs.Promise.{Within};
 
 // What came of reading: so many bytes, which stand at the start of the buffer, or that a read failed.
-#[derive(Drop)]
+#[derive(Clone, Copy)]
 pub enum Got {
     Bytes(usize),
     Failed,

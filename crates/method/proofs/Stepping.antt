@@ -33,7 +33,7 @@ relaxed_sized {n} {T} z H v m =
 pub relaxed_all_sized : {n : ℕ} {T : Tables} → Sized n T → (H : Hunt) (v : ℕ) (l : List Move) → Sized n (relaxed_all H v T l)
 unfolding relaxed_all
 relaxed_all_sized z H v [] = z
-relaxed_all_sized z H v (m ∷ l) = relaxed_all_sized (relaxed_sized z H v m) H v l
+relaxed_all_sized {T = T} z H v (m ∷ l) = relaxed_all_sized {T = relaxed H v T m} (relaxed_sized z H v m) H v l
 
 pub lowered_sized : {n : ℕ} {T : Tables} → Sized n T → (H : Hunt) (u : ℕ) → Sized n (lowered H T u)
 unfolding lowered
@@ -48,7 +48,7 @@ renewed_sized {n} {T} z H m =
 pub renewed_all_sized : {n : ℕ} {T : Tables} → Sized n T → (H : Hunt) (l : List Move) → Sized n (renewed_all H T l)
 unfolding renewed_all
 renewed_all_sized z H [] = z
-renewed_all_sized z H (m ∷ l) = renewed_all_sized (renewed_sized z H m) H l
+renewed_all_sized {T = T} z H (m ∷ l) = renewed_all_sized {T = renewed H T m} (renewed_sized z H m) H l
 
 pub raised_sized : {n : ℕ} {T : Tables} → Sized n T → (H : Hunt) (u : ℕ) → Sized n (raised H T u)
 unfolding raised

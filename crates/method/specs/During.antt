@@ -1,6 +1,6 @@
 -- What holds between the steps of a search.
 use Rattle.std.specs.Prelude.{◌≡◌, true, false, ◌≢◌, ℕ, zero, suc, ◌+◌, ◌*◌, ◌≤◌, ◌<◌}
-use Rattle.std.proofs.Math.Logic.{Dec·and}
+use Rattle.std.proofs.Math.Logic.Dec
 use Rattle.std.proofs.Math.Decide.{ℕ_discrete, dec_le}
 use Rattle.method.specs.Numbers.{infinite, most_cost, most_estimate}
 use Rattle.method.specs.Graph.{GraphLaws, Hunt}
@@ -54,7 +54,7 @@ Settled H κ T s = (g_at T s ≡ rhs_at T s) × (key_at H s (g_at T s) ≤ κ)
 
 -- Whether it is, can be tested.
 pub dec_settled : (H : Hunt) (κ : ℕ) (T : Tables) (s : ℕ) → Dec (Settled H κ T s)
-dec_settled H κ T s = Dec·and (ℕ_discrete (g_at T s) (rhs_at T s)) (dec_le (key_at H s (g_at T s)) κ)
+dec_settled H κ T s = Dec.and (ℕ_discrete (g_at T s) (rhs_at T s)) (dec_le (key_at H s (g_at T s)) κ)
 
 -- 0 where P holds, 1 where it is lacking.
 unfoldable pub lack : {P : Type 0} → Dec P → ℕ

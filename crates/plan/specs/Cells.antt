@@ -1,6 +1,6 @@
 -- Sizes, cells, the cell that a move enters, and the estimate.
 use Rattle.std.specs.Prelude.{◌≡◌, ℕ, ◌+◌, ◌-◌, ◌*◌, ◌/◌, ◌%◌, ◌≤◌, ◌<◌}
-use Rattle.std.proofs.Math.Logic.{Dec·and}
+use Rattle.std.proofs.Math.Logic.Dec
 use Rattle.std.proofs.Math.Decide.{dec_le, dec_lt}
 use Rattle.plan.specs.Directions.{row_step, column_step}
 
@@ -34,9 +34,9 @@ pub record Stays (width height s d : ℕ) : Type 0 where
 -- Whether it does.
 unfoldable pub stays : (width height s d : ℕ) → Dec (Stays width height s d)
 stays width height s d =
-    at (Dec·and (dec_lt s (height * width))
-    (Dec·and (Dec·and (dec_le 1 (row width s + row_step d)) (dec_le (row width s + row_step d) height))
-    (Dec·and (dec_le 1 (column width s + column_step d)) (dec_le (column width s + column_step d) width))))
+    at (Dec.and (dec_lt s (height * width))
+    (Dec.and (Dec.and (dec_le 1 (row width s + row_step d)) (dec_le (row width s + row_step d) height))
+    (Dec.and (dec_le 1 (column width s + column_step d)) (dec_le (column width s + column_step d) width))))
   where
     at : Dec ((s < height * width) × (((1 ≤ row width s + row_step d) × (row width s + row_step d ≤ height)) × ((1 ≤ column width s + column_step d) × (column width s + column_step d ≤ width))))
         → Dec (Stays width height s d)

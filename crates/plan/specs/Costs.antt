@@ -1,6 +1,6 @@
 -- Cost bytes, and what a plan has to obey.
 use Rattle.std.specs.Prelude.{◌≡◌, ◌⊎◌, List, ℕ, ◌+◌, ◌*◌, ◌≤◌, ◌<◌, length, get_or, set}
-use Rattle.std.proofs.Math.Logic.{Dec·and}
+use Rattle.std.proofs.Math.Logic.Dec
 use Rattle.std.proofs.Math.Decide.{dec_le}
 use Rattle.method.specs.Numbers.{most_cost}
 use Rattle.plan.specs.Cells.{Size, Stays}
@@ -14,7 +14,7 @@ abbrev pub IsCost : ℕ → Type 0
 IsCost c = (1 ≤ c) × (c ≤ most_cost)
 
 unfoldable pub is_cost : (c : ℕ) → Dec (IsCost c)
-is_cost c = Dec·and (dec_le 1 c) (dec_le c most_cost)
+is_cost c = Dec.and (dec_le 1 c) (dec_le c most_cost)
 
 -- A byte of the plan: "0 and 251 to 254 are not costs".
 abbrev pub IsByte : ℕ → Type 0

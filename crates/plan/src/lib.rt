@@ -16,7 +16,7 @@ pub const SHUT: u8 = 255;
 pub const MOST_COST: u8 = 250;
 
 // A direction's step in rows and in columns, each plus 1. A byte each, so that a read of the table is one store: with words it is built anew on the stack.
-#[derive(Drop)]
+#[derive(Clone, Copy)]
 pub struct Shift {
     pub row: u8,
     pub column: u8,
@@ -71,7 +71,7 @@ pub fn is_size(width: usize, height: usize) -> bool
 }
 
 // A row and a column.
-#[derive(Drop)]
+#[derive(Clone, Copy)]
 pub struct Spot {
     pub row: usize,
     pub column: usize,
@@ -181,7 +181,7 @@ pub fn is_byte(b: u8) -> bool
 }
 
 // A move, if it is open: the parent code that it gives, the cell at its other end, its cost.
-#[derive(Drop)]
+#[derive(Clone, Copy)]
 pub enum Reach {
     Shut,
     To(u8, usize, u8),

@@ -14,7 +14,7 @@ const NO_NUMBER: usize = 65536;
 const NO_DIRECTION: usize = 4;
 
 // What is asked: what the hunter reaches, the cost along so many listed cells, or the cost through the move of a cell in a direction.
-#[derive(Drop)]
+#[derive(Clone, Copy)]
 pub enum Question {
     Reached,
     Along(usize),
@@ -22,7 +22,7 @@ pub enum Question {
 }
 
 // What the words come to: a question, or none.
-#[derive(Drop)]
+#[derive(Clone, Copy)]
 pub enum Heard {
     Asked(Question),
     Nothing,

@@ -1,6 +1,8 @@
 // The queue: an indexed binary heap of cells, by (k1, k2, column, row), in tables that the caller lends.
 // `list` holds the heap and `place` says where in it each cell is, so a call takes time by the logarithm of the count and passes over no table.
 // The tables may stand in slow memory: a cell that moves is carried in hand, each entry that it passes is written once, and it itself once, where it stops.
+#![tactic(auto)]
+
 ghost use Rattle.std.specs.Prelude.{◌≡◌, true, false, ◌+◌, ◌<◌, ◌≤◌, length, get_or, set};
 ghost use Rattle.decide.specs.Decides.{Decides};
 ghost use Rattle.decide.specs.Order.{less_or, column_first};

@@ -242,7 +242,7 @@ fn refusal(width: usize, height: usize, hunter: usize, plan: &[u8]) -> u8
 }
 
 // How many cells are reached and how many shut moves lead out of them, or refused with document 01's number.
-#[derive(Drop)]
+#[derive(Clone, Copy)]
 pub enum Reaching {
     Reaches(usize, usize),
     Refused(u8),

@@ -39,7 +39,7 @@ const REFUSED: usize = 4;
 
 // What a call returns: the record as it leaves it, and the answer's five numbers. What an answer lacks is 0.
 #[repr(C)]
-#[derive(Drop)]
+#[derive(Clone, Copy)]
 pub struct Reply {
     pub session: Session,
     pub kind: usize,
@@ -51,7 +51,7 @@ pub struct Reply {
 
 // The lengths that a size gives: the plan's, and that of every other table, which is also the way list's least; or the refusal of the size.
 #[repr(C)]
-#[derive(Drop)]
+#[derive(Clone, Copy)]
 pub struct Lengths {
     pub refusal: usize,
     pub plan: usize,
@@ -60,7 +60,7 @@ pub struct Lengths {
 
 // What writing a drill file returns: the refusal's number, and how many bytes were written. What an answer lacks is 0.
 #[repr(C)]
-#[derive(Drop)]
+#[derive(Clone, Copy)]
 pub struct Written {
     pub refusal: usize,
     pub bytes: usize,
@@ -68,7 +68,7 @@ pub struct Written {
 
 // What a question about a plan returns; what an answer lacks is 0. The cells reached and the shut moves that lead out of them ..
 #[repr(C)]
-#[derive(Drop)]
+#[derive(Clone, Copy)]
 pub struct Reached {
     pub refusal: usize,
     pub cells: usize,
@@ -77,7 +77,7 @@ pub struct Reached {
 
 // .. how many running costs were written ..
 #[repr(C)]
-#[derive(Drop)]
+#[derive(Clone, Copy)]
 pub struct Running {
     pub refusal: usize,
     pub costs: usize,
@@ -85,7 +85,7 @@ pub struct Running {
 
 // .. and whether there is a walk (1 or 0), and its least cost.
 #[repr(C)]
-#[derive(Drop)]
+#[derive(Clone, Copy)]
 pub struct Through {
     pub refusal: usize,
     pub walk: usize,

@@ -13,7 +13,7 @@ use tables::Session;
 use take_over;
 
 // What a search returns: the record as it leaves it, and the answer.
-#[derive(Drop)]
+#[derive(Clone, Copy)]
 pub struct Outcome {
     pub session: Session,
     pub answer: Answer,

@@ -9,14 +9,14 @@ use plan;
 use tables;
 
 // Done, or refused with document 01's number.
-#[derive(Drop)]
+#[derive(Clone, Copy)]
 pub enum Answer {
     Done,
     Refused(u8),
 }
 
 // What a call returns: the record as it leaves it, and the answer.
-#[derive(Drop)]
+#[derive(Clone, Copy)]
 pub struct Reply {
     pub session: tables::Session,
     pub answer: Answer,

@@ -123,7 +123,7 @@ fn step(
 }
 
 // How a run of the loop ended: by itself or at its limit, after how many steps, with how many cells queued.
-#[derive(Drop)]
+#[derive(Clone, Copy)]
 pub struct Ran {
     pub ended: bool,
     pub steps: usize,

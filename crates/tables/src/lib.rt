@@ -17,7 +17,7 @@ use queue;
 
 // The session record: the plan's size, hunter and target as placed, those of the last search taken over (origin and goal), km, the queue's count, and the number of searches since the last fresh start.
 #[repr(C)]
-#[derive(Drop)]
+#[derive(Clone, Copy)]
 pub struct Session {
     pub width: usize,
     pub height: usize,
@@ -286,7 +286,7 @@ fn alone_holds(
 }
 
 // Where the check finds a rule broken: nowhere, in the record's own numbers, in a cell by itself, or in a cell's move in a direction.
-#[derive(Drop)]
+#[derive(Clone, Copy)]
 pub enum Fault {
     Nowhere,
     InRecord,

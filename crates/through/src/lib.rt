@@ -92,7 +92,7 @@ fn least_cost(width: usize, height: usize, from: usize, to: usize, plan: &[u8]) 
 }
 
 // The least cost of a walk, none, or refused with document 01's number.
-#[derive(Drop)]
+#[derive(Clone, Copy)]
 pub enum Passing {
     Cost(u32),
     NoWalk,

@@ -1,0 +1,50 @@
+-- The loop's invariant: what carrying the cell leaves (Sifted), where it has come up to i (Rising). The measure is i.
+use mathlib.Core.Path.{◌≡◌, refl, sym, ◌∙◌}
+use Prim.Native.Nat.{◌-◌, ◌/◌}
+use native.Mathlib.Omega.{arith}
+use lib.ListN.{get_or, set, length}
+use borrow.Author.Rules.{rules}
+use borrow.Author.Tests.{not-true, not-false}
+use Rattle.queue.specs.Order.{before}
+use Rattle.queue.specs.Sift.{Sifted, KeyOf}
+use Rattle.queue.proofs.OrderLaws.{before_order}
+use Rattle.queue.proofs.HeapLaws.{keep_more, above, above_inside, stay_first, stay_under}
+use Rattle.queue.proofs.SiftLaws.{reshaped}
+use Rattle.queue.proofs.HoleLaws.{Rising, long_place, long_list, own_key, other_key, first_before, may_pass, passed, not_risen, rises, risen}
+use Rattle.queue.proofs.sift_up.Goals as goal
+
+pub key_of-key-requires : goal.key_of-key-requires
+key_of-key-requires c = own_key c.requires.held
+
+pub key_of-upper_key-requires : goal.key_of-upper_key-requires
+key_of-upper_key-requires c = let l = c.loop-i.invariant in
+    let u = above c.loop-i-test.true in
+    other_key l.held (above_inside u l.held.inside) (λ e. omega (arith, u.low)) c.wide-upper.ensures
+
+pub returns-then-not-key_before : goal.returns-then-not-key_before
+returns-then-not-key_before c = let l = c.loop-i.invariant in
+    let u = above c.loop-i-test.true in
+    reshaped l (risen (before_order _ _ _) l.shape (stay_under (before_order _ _ _) l.shape.loose u ((let u = above c.loop-i-test.true in first_before c.loop-i.invariant.held (above_inside u c.loop-i.invariant.held.inside) (λ e. omega (arith, u.low)) c.wide-upper.ensures ((c.key_of-key.ensures)) c.key_of-upper_key.ensures c.key_before.ensures) ∙ c.if-not-key_before.true)))
+
+pub stand-requires : goal.stand-requires
+stand-requires c = let l = c.loop-i.invariant in
+    let u = above c.loop-i-test.true in
+    may_pass l.held (above_inside u l.held.inside) (λ e. omega (arith, u.low)) c.wide-upper.ensures
+
+pub loop-i-preserved : goal.loop-i-preserved
+loop-i-preserved c = let l = c.loop-i.invariant in
+    let u = above c.loop-i-test.true in
+    let b = above_inside u l.held.inside in
+    let s = passed l.held b (λ e. omega (arith, u.low)) c.wide-upper.ensures c.stand.ensures.place_after c.stand.ensures.list_after in
+    let moves = (let u = above c.loop-i-test.true in first_before c.loop-i.invariant.held (above_inside u c.loop-i.invariant.held.inside) (λ e. omega (arith, u.low)) c.wide-upper.ensures ((c.key_of-key.ensures)) c.key_of-upper_key.ensures c.key_before.ensures) ∙ c.if-not-key_before.false in
+    record {
+      held = s.0;
+      membership = s.1 ∙ l.membership;
+      shape = rises (before_order _ _ _) l.shape u moves s.2;
+      keeps = keep_more l.keeps u l.held.inside moves;
+      unmoved = λ q. absurd (omega (arith, u.low, l.shape.higher));
+    }
+
+pub returns : goal.returns
+returns c = let l = c.loop-i.invariant in
+    reshaped l (risen (before_order _ _ _) l.shape (stay_first (before_order _ _ _) (omega arith) l.shape.loose))
