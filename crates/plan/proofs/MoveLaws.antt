@@ -13,7 +13,7 @@ use Rattle.decide.proofs.DecideLaws.{decides_lt}
 use Rattle.method.specs.Numbers.{most_cells}
 use Rattle.method.specs.Graph.{Move, move}
 use Rattle.plan.specs.Directions.{shift_of, row_step, column_step, opposite}
-use Rattle.plan.specs.Cells.{Size, row, column, Stands, Stays, stays, entered}
+use Rattle.plan.specs.Cells.{Size, Stands, Stays, stays, entered}
 use Rattle.plan.specs.Costs.{Plan, cells, byte, shut, IsCost, is_cost, IsByte, Bytes, Obeys}
 use Rattle.plan.specs.Grid.{out_by, into_by}
 use Rattle.plan.specs.Reached.{At, Placed}

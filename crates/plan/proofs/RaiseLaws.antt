@@ -16,7 +16,7 @@ use Rattle.method.proofs.Notions.{ReachedAt, Kept, Renewed, Raise, Did, did_put_
 use Rattle.method.proofs.Running.{did_next}
 use Rattle.method.proofs.Searching.{hunt_taken, bound_taken, run_taken, during_sound, went_to}
 use Rattle.plan.specs.Cells.{Size, entered}
-use Rattle.plan.specs.Costs.{Plan, cells}
+use Rattle.plan.specs.Costs.{Plan}
 use Rattle.plan.specs.Grid.{graph_of}
 use Rattle.plan.proofs.GridLaws.{graph_laws, into_is}
 use Rattle.plan.specs.Raise.{NeighbourWithParent, EnteredByParent, RaisedAsWritten}

@@ -1,4 +1,6 @@
 // The floor plan: directions, cells, cost bytes, the estimate, and a cell's open moves.
+#![tactic(auto)]
+
 ghost use Rattle.std.specs.Prelude.{◌≡◌, ℕ, ◌+◌, ◌*◌, ◌<◌, ◌≤◌, length};
 ghost use Rattle.decide.specs.Decides.{Decides};
 ghost use Rattle.method.specs.Numbers.{most_cells};

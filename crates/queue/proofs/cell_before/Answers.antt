@@ -2,7 +2,6 @@
 use mathlib.Core.Path.{sym, ◌∙◌}
 use Rattle.queue.specs.Order.{before}
 use Rattle.decide.proofs.OrderLaws.{less_eq, less_ne}
-use borrow.Author.Rules.{rules}
 use Rattle.queue.proofs.cell_before.Goals as goal
 
 pub returns-then-a1-b1 : goal.returns-then-a1-b1

@@ -1,7 +1,6 @@
 -- The keys differ, or the tie decides.
 use mathlib.Core.Path.{sym, ◌∙◌}
 use Rattle.decide.proofs.OrderLaws.{less_eq, less_ne}
-use borrow.Author.Rules.{rules}
 use Rattle.queue.proofs.key_before.Goals as goal
 
 pub returns-then-p-q : goal.returns-then-p-q

@@ -1,6 +1,5 @@
 -- The first cell of the list is the least (`first_least`).
 use Rattle.queue.proofs.CallLaws.{first_least}
-use borrow.Author.Rules.{rules}
 use Rattle.queue.proofs.least.Goals as goal
 
 pub returns : goal.returns

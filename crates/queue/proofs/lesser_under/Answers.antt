@@ -1,14 +1,9 @@
 -- One entry under place i, or the lesser of two.
-use mathlib.Core.Path.{◌≡◌, sym, ◌∙◌}
-use Prim.Native.Nat.{ℕ, ◌+◌}
+use mathlib.Core.Path.{sym, ◌∙◌}
 use native.Mathlib.Omega.{arith}
-use lib.ListN.{get_or}
-use Rattle.queue.specs.Order.{before}
-use Rattle.queue.specs.Queue.{Under}
 use Rattle.queue.proofs.OrderLaws.{before_order}
 use Rattle.queue.proofs.KeyLaws.{compared}
 use Rattle.queue.proofs.HeapLaws.{lesser_left, lesser_right}
-use borrow.Author.Rules.{rules}
 use Rattle.queue.proofs.lesser_under.Goals as goal
 
 pub returns-then-key_before : goal.returns-then-key_before

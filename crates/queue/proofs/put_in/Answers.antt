@@ -3,9 +3,8 @@ use mathlib.Core.Path.{refl}
 use Rattle.queue.proofs.CaseLaws.{never}
 use Rattle.queue.proofs.OrderLaws.{before_order}
 use Rattle.queue.proofs.SiftLaws.{reshaped}
-use Rattle.queue.proofs.HoleLaws.{may_stand, risen_last}
+use Rattle.queue.proofs.HoleLaws.{risen_last}
 use Rattle.queue.proofs.CallLaws.{put_in_loose, put_in_members, stood}
-use borrow.Author.Rules.{rules}
 use Rattle.queue.proofs.put_in.Goals as goal
 
 pub sift_up-i-requires-clause-held : goal.sift_up-i-requires-clause-held

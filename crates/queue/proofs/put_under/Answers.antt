@@ -1,7 +1,5 @@
 -- The cell has another key and is in hand over its own place; where it settles elsewhere, it is written there.
-use Rattle.queue.proofs.HoleLaws.{may_stand}
 use Rattle.queue.proofs.CallLaws.{put_under_loose, put_under_stays, put_under_done}
-use borrow.Author.Rules.{rules}
 use Rattle.queue.proofs.put_under.Goals as goal
 
 pub settle-j-requires-clause-loose : goal.settle-j-requires-clause-loose

@@ -1,16 +1,10 @@
 -- The loop's invariant: what carrying the cell leaves (Sifted), where it can stand too high only, at i, not above `start`. The measure is the places from i on.
-use Prim.Native.Nat.{◌-◌, ◌≤◌}
-use mathlib.Core.Path.{◌≡◌, refl, sym, ◌∙◌}
+use mathlib.Core.Path.{◌∙◌}
 use native.Mathlib.Omega.{arith}
-use lib.ListN.{get_or, set, length}
-use borrow.Author.Rules.{rules}
-use borrow.Author.Tests.{not-true, not-false}
-use Rattle.queue.specs.Order.{before}
-use Rattle.queue.specs.Sift.{Low, Sifted, KeyOf}
 use Rattle.queue.proofs.OrderLaws.{before_order}
-use Rattle.queue.proofs.HeapLaws.{keep_more, sink, stay_last, stay_over}
+use Rattle.queue.proofs.HeapLaws.{keep_more, sink, stay_over}
 use Rattle.queue.proofs.SiftLaws.{reshaped}
-use Rattle.queue.proofs.HoleLaws.{long_place, long_list, own_key, other_key, second_before, may_pass, passed, compares, lesser_meant}
+use Rattle.queue.proofs.HoleLaws.{second_before, may_pass, passed, lesser_meant}
 use Rattle.queue.proofs.sift_down.Goals as goal
 
 pub returns-then-not-key_before : goal.returns-then-not-key_before

@@ -1,14 +1,7 @@
 -- The cell is cut off, and the last entry, if it is another, is in hand over its place and stands where it settles from there.
-use mathlib.Core.Path.{◌≡◌, refl, sym, ◌∙◌}
-use Prim.Native.Nat.{◌+◌, ◌-◌}
-use native.Mathlib.Omega.{arith}
-use lib.ListN.{length, set}
-use Rattle.queue.specs.Order.{before}
-use Rattle.queue.specs.Queue.{absent}
-use Rattle.queue.specs.Sift.{Held, Loose}
-use Rattle.queue.proofs.HoleLaws.{long_list, held_own, may_stand, stood_place, stood_list}
-use Rattle.queue.proofs.CallLaws.{has_last, last_out, take-out-loose, take_out_members, stood}
-use borrow.Author.Rules.{rules}
+use mathlib.Core.Path.{refl}
+use Rattle.queue.proofs.HoleLaws.{long_list, held_own}
+use Rattle.queue.proofs.CallLaws.{last_out, take-out-loose, take_out_members, stood}
 use Rattle.queue.proofs.take_out.Goals as goal
 
 pub returns-then-last-i-clause-changed : goal.returns-then-last-i-clause-changed

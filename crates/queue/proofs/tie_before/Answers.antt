@@ -1,6 +1,5 @@
 -- Each return is one case of the order by column.
 use mathlib.Core.Path.{sym}
-use borrow.Author.Rules.{rules}
 use Rattle.decide.specs.Order.{column_first}
 use Rattle.decide.proofs.OrderLaws.{less_eq, less_ne}
 use Rattle.queue.proofs.tie_before.Goals as goal
