@@ -1,32 +1,27 @@
 -- The check stops at one place only, and nowhere exactly if the tables are sound.
 use mathlib.Core.Path.{◌≡◌, refl, ap, subst}
 use mathlib.Core.Bool.{true, false}
-use mathlib.Core.Logic.{⊎_elim}
-use mathlib.Core.List.{[], ◌∷◌}
 use Prim.Native.Nat.{ℕ, ◌<◌}
 use native.Mathlib.Omega.{arith}
 use native.Mathlib.Decide.{dec_lt}
-use types.Run.{OneOf}
-use denote.Enum.Declared.{tag_of}
 use Rattle.decide.specs.Decides.{Decides}
 use Rattle.decide.proofs.DecideLaws.{decides_yes, decides_no}
 use Rattle.plan.specs.Cells.{Size}
 use Rattle.tables.specs.declared.Session.{Session}
 use Rattle.tables.specs.declared.Fault.{Fault}
-use Rattle.tables.specs.declared.Fault.TheVariants.{Nowhere, InRecord, InCell, InMove}
+use Rattle.tables.specs.declared.Fault.TheVariants.{Nowhere, InCell, InMove}
 use Rattle.tables.specs.Lent.{Tables, Fits, cells}
 use Rattle.tables.specs.Sound.{Sound}
 use Rattle.tables.specs.Rules.{AloneIn, WayIn, RulesBefore, FirstFault, nowhere, in_record, in_cell, in_move}
-use Rattle.tables.specs.contracts.Fault.{the_type}
 use Rattle.tables.proofs.SoundLaws.{Words, sound_of_rules, numbers_rule, cell_rules}
 
 -- two numbers that fail a rule which all before them obey are one
 first_one : {P : ℕ → Type 0} {u v : ℕ} → ((w : ℕ) → w < u → P w) → ((w : ℕ) → w < v → P w) → (P u → ⊥) → (P v → ⊥) → u ≡ v
-first_one {P} {u} {v} before-u before-v not_u not-v = at (dec_lt u v) (dec_lt v u)
+first_one {P} {u} {v} before_u before_v not_u not_v = at (dec_lt u v) (dec_lt v u)
   where
     at : Dec (u < v) → Dec (v < u) → u ≡ v
-    at (yes l) q = absurd (not_u (before-v u l))
-    at (no n) (yes l) = absurd (not-v (before-u v l))
+    at (yes l) q = absurd (not_u (before_v u l))
+    at (no n) (yes l) = absurd (not_v (before_u v l))
     at (no n) (no m) = omega arith
 
 -- of the first cell at fault, the first move
@@ -68,13 +63,6 @@ module _ {s : Session} {t : Tables} where
   all_rules (in_cell l B n) e = let z : ◌≡◌ {A = ℕ} 0 1 = cc in absurd (omega arith)
   all_rules (in_move l k B a W n) e = let z : ◌≡◌ {A = ℕ} 0 1 = cc in absurd (omega arith)
 
--- one of the last three variants is not the first
-somewhere : (f : Fault) → OneOf (1 ∷ 2 ∷ 3 ∷ []) (tag_of the_type f) → f ≡ Nowhere → ⊥
-somewhere Nowhere k e = ⊎_elim (λ q. omega (arith, q)) (⊎_elim (λ q. omega (arith, q)) (λ q. omega (arith, q))) k
-somewhere InRecord k e = let z : ◌≡◌ {A = ℕ} 0 1 = cc in omega arith
-somewhere (InCell u) k e = let z : ◌≡◌ {A = ℕ} 0 1 = cc in omega arith
-somewhere (InMove u d) k e = let z : ◌≡◌ {A = ℕ} 0 1 = cc in omega arith
-
 module _ (s : Session) (t : Tables) (z : Size s.width s.height) (fit : Fits (cells s) t) (rhs32 : Words t.rhs) (k32 : Words t.k2) where
   -- No place of sound tables is at fault.
   pub sound_nowhere : Sound s t → FirstFault s t Nowhere
@@ -85,5 +73,5 @@ module _ (s : Session) (t : Tables) (z : Size s.width s.height) (fit : Fits (cel
     pub sound_there : f ≡ Nowhere → Decides true (Sound s t)
     sound_there e = let B = all_rules F e in decides_yes (sound_of_rules s t z fit rhs32 k32 B.numbers B.each_cell)
 
-    pub unsound_there : OneOf (1 ∷ 2 ∷ 3 ∷ []) (tag_of the_type f) → Decides false (Sound s t)
-    unsound_there k = decides_no (λ S. somewhere f k (one_first_fault F (sound_nowhere S)))
+    pub unsound_there : (f ≡ Nowhere → ⊥) → Decides false (Sound s t)
+    unsound_there n = decides_no (λ S. n (one_first_fault F (sound_nowhere S)))
