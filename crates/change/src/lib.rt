@@ -1,7 +1,7 @@
 // The public call that changes a move, the same without the check for tables known to be sound, and what a changed move asks of the cell that it enters.
 ghost use Rattle.std.specs.Prelude.{◌≡◌, ◌+◌};
 ghost use Rattle.plan.specs.Cells.{Size};
-ghost use Rattle.tables.specs.Lent.{given, before, after};
+ghost use Rattle.tables.specs.Lent.{tables};
 ghost use Rattle.tables.specs.Sound.{Sound};
 ghost use Rattle.change.specs.Refusals.{MoveRules, Workable};
 ghost use Rattle.change.specs.Effects.{Deciding, Asks};
@@ -102,8 +102,8 @@ fn work_in(
     d: usize,
     cost: u8,
 ) -> usize
-    requires { Workable s (given plan g rhs parent k1 k2 place list) u d cost }
-    ensures { WorkedIn s (before plan g rhs parent k1 k2 place list) u d cost result (after plan g rhs parent k1 k2 place list) }
+    requires { Workable s (tables plan.old g.now rhs.old parent.old k1.old k2.old place.old list.old) u d cost }
+    ensures { WorkedIn s (tables plan.old g.now rhs.old parent.old k1.old k2.old place.old list.old) u d cost result (tables plan.new g.now rhs.new parent.new k1.new k2.new place.new list.new) }
 {
     let v = plan::entered(s.width, u, d);
     let k = plan::back_code(d);
@@ -134,8 +134,8 @@ pub fn change_sound(
     d: usize,
     cost: u8,
 ) -> session::Reply
-    requires { Sound s (given plan g rhs parent k1 k2 place list) }
-    ensures { Changes s (before plan g rhs parent k1 k2 place list) u d cost result (after plan g rhs parent k1 k2 place list) }
+    requires { Sound s (tables plan.old g.now rhs.old parent.old k1.old k2.old place.old list.old) }
+    ensures { Changes s (tables plan.old g.now rhs.old parent.old k1.old k2.old place.old list.old) u d cost result (tables plan.new g.now rhs.new parent.new k1.new k2.new place.new list.new) }
 {
     let number = move_refusal(s, u, d, cost);
     if number != 0 {
@@ -167,7 +167,7 @@ pub fn change_move(
     d: usize,
     cost: u8,
 ) -> session::Reply
-    ensures { Changes s (before plan g rhs parent k1 k2 place list) u d cost result (after plan g rhs parent k1 k2 place list) }
+    ensures { Changes s (tables plan.old g.now rhs.old parent.old k1.old k2.old place.old list.old) u d cost result (tables plan.new g.now rhs.new parent.new k1.new k2.new place.new list.new) }
 {
     let refusal = session::table_refusal(s, plan, g, rhs, parent, k1, k2, place, list);
     if refusal != 0 {

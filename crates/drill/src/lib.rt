@@ -2,7 +2,7 @@
 ghost use Rattle.std.specs.Prelude.{◌≡◌, ◌+◌, ◌≤◌, ◌<◌, length};
 ghost use Rattle.decide.specs.Decides.{Decides};
 ghost use Rattle.plan.specs.Cells.{Size};
-ghost use Rattle.tables.specs.Lent.{cells, given, before, after};
+ghost use Rattle.tables.specs.Lent.{tables, cells};
 ghost use Rattle.text.specs.Put.{Put};
 ghost use Rattle.lines.specs.Lines.{room};
 ghost use Rattle.drill_file.specs.declared.Action.TheVariants.{Change, Search};
@@ -63,8 +63,8 @@ fn play_change(
     text: &mut [u8],
     used: usize,
 ) -> Turned
-    requires { Ready s (given plan g rhs parent k1 k2 place list) way.now text.old used }
-    ensures { Turns (Change u d cost) s (before plan g rhs parent k1 k2 place list) way.now text.old used result (after plan g rhs parent k1 k2 place list) way.now text.new }
+    requires { Ready s (tables plan.old g.now rhs.old parent.old k1.old k2.old place.old list.old) way.now text.old used }
+    ensures { Turns (Change u d cost) s (tables plan.old g.now rhs.old parent.old k1.old k2.old place.old list.old) way.now text.old used result (tables plan.new g.now rhs.new parent.new k1.new k2.new place.new list.new) way.now text.new }
 {
     let reply = change::change_sound(s, plan, g, rhs, parent, k1, k2, place, list, u, d, cost);
     put_reply(reply, text, used)
@@ -85,8 +85,8 @@ fn play_search(
     text: &mut [u8],
     used: usize,
 ) -> Turned
-    requires { Ready s (given plan g rhs parent k1 k2 place list) way.old text.old used }
-    ensures { Turns Search s (before plan g rhs parent k1 k2 place list) way.old text.old used result (after plan g rhs parent k1 k2 place list) way.new text.new }
+    requires { Ready s (tables plan.now g.old rhs.old parent.old k1.old k2.old place.old list.old) way.old text.old used }
+    ensures { Turns Search s (tables plan.now g.old rhs.old parent.old k1.old k2.old place.old list.old) way.old text.old used result (tables plan.now g.new rhs.new parent.new k1.new k2.new place.new list.new) way.new text.new }
 {
     let found = search::search_sound(s, plan, g, rhs, parent, k1, k2, place, list, way);
     let session = found.session;
@@ -111,8 +111,8 @@ pub fn play_action(
     text: &mut [u8],
     used: usize,
 ) -> Turned
-    requires { Ready s (given plan g rhs parent k1 k2 place list) way.old text.old used }
-    ensures { Turns action s (before plan g rhs parent k1 k2 place list) way.old text.old used result (after plan g rhs parent k1 k2 place list) way.new text.new }
+    requires { Ready s (tables plan.old g.old rhs.old parent.old k1.old k2.old place.old list.old) way.old text.old used }
+    ensures { Turns action s (tables plan.old g.old rhs.old parent.old k1.old k2.old place.old list.old) way.old text.old used result (tables plan.new g.new rhs.new parent.new k1.new k2.new place.new list.new) way.new text.new }
 {
     match action {
         drill_file::Action::Change(u, d, cost) => {

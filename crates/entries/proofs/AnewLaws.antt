@@ -21,8 +21,9 @@ use Rattle.plan.proofs.GridLaws.{into_reach, open_from_in}
 use Rattle.entries.specs.Aims.{Small}
 
 -- what an answer about a direction says
-pub said_shut : {r : Reach} {l : List Move} → r ≡ Shut → listed r ≡ l → [] ≡ l
-said_shut e q = ap listed (sym e) ∙ q
+pub said_shut : {r : Reach} {l : List Move} → ((code u cost : ℕ) → r ≡ To code u cost → ⊥) → listed r ≡ l → [] ≡ l
+said_shut {r = Shut} n q = q
+said_shut {r = To code u cost} n q = absurd (n code u cost refl)
 
 pub said_to : {r : Reach} {k v c : ℕ} {l : List Move} → r ≡ To k v c → listed r ≡ l → move k v c ∷ [] ≡ l
 said_to e q = ap listed (sym e) ∙ q

@@ -19,7 +19,7 @@ use Rattle.queue.proofs.QueueLaws.{empty_heap}
 use Rattle.plan.specs.Reached.{At}
 use Rattle.plan.specs.declared.Spot.{Spot}
 use Rattle.plan.proofs.MoveLaws as moves
-use Rattle.tables.specs.Lent.{Tables, tables, Fits, graph_in, core}
+use Rattle.tables.specs.Lent.{tables, Fits, graph_in, core}
 use Rattle.entries.specs.declared.Aim.{Aim}
 use Rattle.entries.specs.Aims.{area, frame_of, hunt, Aimed, Small}
 use Rattle.entries.specs.Became.{Became, Entering, Entered}

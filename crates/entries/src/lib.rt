@@ -1,4 +1,6 @@
 // A cell's queue entry set right, its rhs and parent found anew, the fresh start (record and tables), and the cell that a parent byte names.
+#![tactic(auto)]
+
 ghost use Rattle.std.specs.Prelude.{◌≡◌, ◌+◌, ◌<◌, ◌≤◌, get_or, length, replicate};
 ghost use Rattle.method.specs.Numbers.{infinite};
 ghost use Rattle.method.specs.Tables.{least_over, anew as anewOf, found_anew};
@@ -7,7 +9,7 @@ ghost use Rattle.queue.specs.Queue.{EntryKept};
 ghost use Rattle.plan.specs.Costs.{plan_of};
 ghost use Rattle.plan.specs.Grid.{into_by};
 ghost use Rattle.plan.specs.Reached.{Placed, between};
-ghost use Rattle.tables.specs.Lent.{given, before, after, frame, frame_of_size, Fits, graph_in, core};
+ghost use Rattle.tables.specs.Lent.{tables, frame, frame_of_size, Fits, graph_in, core};
 ghost use Rattle.entries.specs.Aims.{area, frame_of, hunt, AimOf, Aimed, most_rhs, Findable, ReadyAt};
 ghost use Rattle.entries.specs.Begin.{Openable, placed_on, begun, Opened};
 ghost use Rattle.entries.specs.Became.{Became, Entering, Entered, Taking, Taken, found_of};
@@ -195,8 +197,8 @@ pub fn found_anew(
     cell: usize,
     at: Spot,
 ) -> usize
-    requires { ReadyAt a most_rhs count cell at (given plan g rhs parent k1 k2 place list) }
-    ensures became { Became a result (after plan g rhs parent k1 k2 place list) (found_anew (hunt a plan.now) (core (before plan g rhs parent k1 k2 place list)) cell) }
+    requires { ReadyAt a most_rhs count cell at (tables plan.now g.now rhs.old parent.old k1.old k2.old place.old list.old) }
+    ensures became { Became a result (tables plan.now g.now rhs.new parent.new k1.new k2.new place.new list.new) (found_anew (hunt a plan.now) (core (tables plan.now g.now rhs.old parent.old k1.old k2.old place.old list.old)) cell) }
     ensures entry_kept { EntryKept count k1.old k2.old place.old list.old result k1.new k2.new place.new list.new }
 {
     let f = anew(a, plan, g, cell);
@@ -243,8 +245,8 @@ fn fresh(
     list: &mut [u16],
 ) -> usize
     requires aimed { Aimed a plan.now × (a.km ≡ 0) }
-    requires fits { Fits (area a) (given plan g rhs parent k1 k2 place list) }
-    ensures became { Became a result (after plan g rhs parent k1 k2 place list) (fresh_of (graph_in (frame_of a) plan.now) a.hunter a.target) }
+    requires fits { Fits (area a) (tables plan.now g.old rhs.old parent.old k1.old k2.old place.old list.old) }
+    ensures became { Became a result (tables plan.now g.new rhs.new parent.new k1.new k2.new place.new list.new) (fresh_of (graph_in (frame_of a) plan.now) a.hunter a.target) }
     ensures value { result ≡ 1 }
 {
     fill_words(g, tables::INFINITE);
@@ -289,8 +291,8 @@ pub fn begin(
     place: &mut [u16],
     list: &mut [u16],
 ) -> Session
-    requires { Openable (frame s) s.hunter s.target (given plan g rhs parent k1 k2 place list) }
-    ensures { (result ≡ begun (frame s) s.hunter s.target) × Opened (frame s) s.hunter s.target (before plan g rhs parent k1 k2 place list) (after plan g rhs parent k1 k2 place list) }
+    requires { Openable (frame s) s.hunter s.target (tables plan.now g.old rhs.old parent.old k1.old k2.old place.old list.old) }
+    ensures { (result ≡ begun (frame s) s.hunter s.target) × Opened (frame s) s.hunter s.target (tables plan.now g.old rhs.old parent.old k1.old k2.old place.old list.old) (tables plan.now g.new rhs.new parent.new k1.new k2.new place.new list.new) }
 {
     let mut session = s;
     session.origin = s.hunter;

@@ -1,6 +1,6 @@
 // Opening: a drill file opened on tables of its size, or refused by its number before anything but its line is written.
 ghost use Rattle.std.specs.Prelude.{◌≡◌, ◌≤◌, length, take};
-ghost use Rattle.tables.specs.Lent.{given, before, after, Fits};
+ghost use Rattle.tables.specs.Lent.{tables, Fits};
 ghost use Rattle.lines.specs.Lines.{room};
 ghost use Rattle.drill_file.specs.File.{trailer_in, cells_in};
 ghost use Rattle.drill_file.specs.Numbers.{file_number};
@@ -40,7 +40,7 @@ fn file_refusal(
     list: &[u16],
 ) -> u8
     requires t_value { t ≡ trailer_in file.now }
-    requires fits { Fits (cells_in file.now) (given plan g rhs parent k1 k2 place list) }
+    requires fits { Fits (cells_in file.now) (tables plan.now g.now rhs.now parent.now k1.now k2.now place.now list.now) }
     ensures { result ≡ file_number file.now }
 {
     let form = drill_file::form(file, t);
@@ -106,8 +106,8 @@ pub fn begin(
     text: &mut [u8],
 ) -> Played
     requires t_value { t ≡ trailer_in file.now }
-    requires opening { Opening file.now (given plan g rhs parent k1 k2 place list) text.old }
-    ensures { Begins file.now (before plan g rhs parent k1 k2 place list) text.old result (after plan g rhs parent k1 k2 place list) text.new }
+    requires opening { Opening file.now (tables plan.old g.old rhs.old parent.old k1.old k2.old place.old list.old) text.old }
+    ensures { Begins file.now (tables plan.old g.old rhs.old parent.old k1.old k2.old place.old list.old) text.old result (tables plan.new g.new rhs.new parent.new k1.new k2.new place.new list.new) text.new }
 {
     let number = file_refusal(file, t, plan, g, rhs, parent, k1, k2, place, list);
     if number != 0 {

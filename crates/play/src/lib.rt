@@ -1,5 +1,5 @@
 // Playing: the actions of a drill, read through one reader that moves.
-ghost use Rattle.tables.specs.Lent.{given, before, after};
+ghost use Rattle.tables.specs.Lent.{tables};
 ghost use Rattle.drill.specs.Promises.{Playing, Plays};
 
 use drill;
@@ -24,8 +24,8 @@ pub fn play<'a>(
     way: &mut [u16],
     text: &mut [u8],
 ) -> Played
-    requires { Playing r.file.now s (given plan g rhs parent k1 k2 place list) way.old r.at actions }
-    ensures { Plays r.entry.file.now s (before plan g rhs parent k1 k2 place list) way.old r.entry.at actions text.old result (after plan g rhs parent k1 k2 place list) way.new text.new }
+    requires { Playing r.file.now s (tables plan.old g.old rhs.old parent.old k1.old k2.old place.old list.old) way.old r.at actions }
+    ensures { Plays r.entry.file.now s (tables plan.old g.old rhs.old parent.old k1.old k2.old place.old list.old) way.old r.entry.at actions text.old result (tables plan.new g.new rhs.new parent.new k1.new k2.new place.new list.new) way.new text.new }
 {
     let mut reader = r;
     let mut turned = Turned {

@@ -1,7 +1,7 @@
 // The library for programs that are not written in Rattle: each public call as a C function, on numbers and lent tables.
 // An enum cannot cross, so an answer is told in numbers. `include/rongdhesi.h` declares all of this for C.
 ghost use Rattle.std.specs.Prelude.{◌≡◌};
-ghost use Rattle.tables.specs.Lent.{before, after};
+ghost use Rattle.tables.specs.Lent.{tables};
 ghost use Rattle.tables.specs.Told.{told_refusal};
 ghost use Rattle.session.specs.Refusals.{told_by as toldByCall};
 ghost use Rattle.session.specs.Promises.{hunter_at, target_at, Places, Opens};
@@ -221,7 +221,7 @@ pub extern "C" fn rongdhesi_open(
     place: &mut [u16],
     list: &mut [u16],
 ) -> Reply
-    ensures { CallTold (λ x. Opens width height hunter target (before plan g rhs parent k1 k2 place list) x (after plan g rhs parent k1 k2 place list)) result }
+    ensures { CallTold (λ x. Opens width height hunter target (tables plan.now g.old rhs.old parent.old k1.old k2.old place.old list.old) x (tables plan.now g.new rhs.new parent.new k1.new k2.new place.new list.new)) result }
 {
     let called = session::open(
         width, height, hunter, target, plan, g, rhs, parent, k1, k2, place, list,
@@ -263,7 +263,7 @@ pub extern "C" fn rongdhesi_change_move(
     d: usize,
     cost: usize,
 ) -> Reply
-    ensures { CallTold (λ x. Changes s (before plan g rhs parent k1 k2 place list) u d (byte_of cost) x (after plan g rhs parent k1 k2 place list)) result }
+    ensures { CallTold (λ x. Changes s (tables plan.old g.now rhs.old parent.old k1.old k2.old place.old list.old) u d (byte_of cost) x (tables plan.new g.now rhs.new parent.new k1.new k2.new place.new list.new)) result }
 {
     let byte = byte_of(cost);
     let called = change::change_move(s, plan, g, rhs, parent, k1, k2, place, list, u, d, byte);
@@ -284,7 +284,7 @@ pub extern "C" fn rongdhesi_search(
     list: &mut [u16],
     way: &mut [u16],
 ) -> Reply
-    ensures { SearchTold (λ x. Searches s (before plan g rhs parent k1 k2 place list) way.old x (after plan g rhs parent k1 k2 place list) way.new) result }
+    ensures { SearchTold (λ x. Searches s (tables plan.now g.old rhs.old parent.old k1.old k2.old place.old list.old) way.old x (tables plan.now g.new rhs.new parent.new k1.new k2.new place.new list.new) way.new) result }
 {
     let called = search::search(s, plan, g, rhs, parent, k1, k2, place, list, way);
     search_told(called)

@@ -1,6 +1,6 @@
 // One search: the refusals, the take-over, the steps, and the answer with its way.
 ghost use Rattle.std.specs.Prelude.{◌≤◌, length};
-ghost use Rattle.tables.specs.Lent.{given, before, after, cells};
+ghost use Rattle.tables.specs.Lent.{tables, cells};
 ghost use Rattle.tables.specs.Sound.{Sound};
 ghost use Rattle.search.specs.Promise.{SearchRules, Searched, Searches};
 
@@ -32,7 +32,7 @@ fn refusal(
     list: &[u16],
     way: &[u16],
 ) -> u8
-    ensures { SearchRules s (before plan g rhs parent k1 k2 place list) way.now result }
+    ensures { SearchRules s (tables plan.now g.now rhs.now parent.now k1.now k2.now place.now list.now) way.now result }
 {
     let number = session::table_refusal(s, plan, g, rhs, parent, k1, k2, place, list);
     if number != 0 {
@@ -57,8 +57,8 @@ pub fn search_sound(
     list: &mut [u16],
     way: &mut [u16],
 ) -> Outcome
-    requires { Sound s (given plan g rhs parent k1 k2 place list) × (cells s ≤ length way.old) }
-    ensures { Searched s (before plan g rhs parent k1 k2 place list) way.old result (after plan g rhs parent k1 k2 place list) way.new }
+    requires { Sound s (tables plan.now g.old rhs.old parent.old k1.old k2.old place.old list.old) × (cells s ≤ length way.old) }
+    ensures { Searched s (tables plan.now g.old rhs.old parent.old k1.old k2.old place.old list.old) way.old result (tables plan.now g.new rhs.new parent.new k1.new k2.new place.new list.new) way.new }
 {
     if s.hunter == s.target {
         way[0] = s.hunter as u16;
@@ -90,7 +90,7 @@ pub fn search(
     list: &mut [u16],
     way: &mut [u16],
 ) -> Outcome
-    ensures { Searches s (before plan g rhs parent k1 k2 place list) way.old result (after plan g rhs parent k1 k2 place list) way.new }
+    ensures { Searches s (tables plan.now g.old rhs.old parent.old k1.old k2.old place.old list.old) way.old result (tables plan.now g.new rhs.new parent.new k1.new k2.new place.new list.new) way.new }
 {
     let number = refusal(s, plan, g, rhs, parent, k1, k2, place, list, way);
     if number != 0 {

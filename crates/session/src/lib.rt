@@ -1,6 +1,6 @@
 // The public calls that make a record: open, place hunter, place target. The answers and refusals of every call on a session.
 ghost use Rattle.decide.specs.Ruled.{Passed};
-ghost use Rattle.tables.specs.Lent.{before, after};
+ghost use Rattle.tables.specs.Lent.{tables};
 ghost use Rattle.session.specs.Refusals.{PlaceRules, OpenRules, TableRules};
 ghost use Rattle.session.specs.Promises.{hunter_at, target_at, Places, Opens};
 
@@ -88,7 +88,7 @@ pub fn open_refusal(
     place: &[u16],
     list: &[u16],
 ) -> u8
-    ensures { OpenRules width height hunter target (before plan g rhs parent k1 k2 place list) result }
+    ensures { OpenRules width height hunter target (tables plan.now g.now rhs.now parent.now k1.now k2.now place.now list.now) result }
 {
     if !plan::is_size(width, height) {
         return 1;
@@ -127,7 +127,7 @@ pub fn open(
     place: &mut [u16],
     list: &mut [u16],
 ) -> Reply
-    ensures { Opens width height hunter target (before plan g rhs parent k1 k2 place list) result (after plan g rhs parent k1 k2 place list) }
+    ensures { Opens width height hunter target (tables plan.now g.old rhs.old parent.old k1.old k2.old place.old list.old) result (tables plan.now g.new rhs.new parent.new k1.new k2.new place.new list.new) }
 {
     let number = open_refusal(
         width, height, hunter, target, plan, g, rhs, parent, k1, k2, place, list,
@@ -159,7 +159,7 @@ pub fn table_refusal(
     place: &[u16],
     list: &[u16],
 ) -> u8
-    ensures { TableRules s (before plan g rhs parent k1 k2 place list) Passed result }
+    ensures { TableRules s (tables plan.now g.now rhs.now parent.now k1.now k2.now place.now list.now) Passed result }
 {
     if !plan::is_size(s.width, s.height) {
         return 1;

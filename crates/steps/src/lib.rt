@@ -1,7 +1,7 @@
 // The steps of a search over the lent tables: put back, lower, raise, and the loop over them, up to a limit.
 ghost use Rattle.method.specs.Steps.{lowered, raised, stepped};
 ghost use Rattle.queue.specs.Queue.{EntryKept};
-ghost use Rattle.tables.specs.Lent.{core, given, before, after};
+ghost use Rattle.tables.specs.Lent.{tables, core};
 ghost use Rattle.entries.specs.Aims.{hunt, most_g, Aimed, ReadyAt};
 ghost use Rattle.entries.specs.Became.{Became};
 ghost use Rattle.steps.specs.Ready.{Obeying, Obeyed, Lowering, Stepping};
@@ -55,8 +55,8 @@ fn lower(
     u: usize,
     at: Spot,
 ) -> usize
-    requires { Lowering a count u at (given plan g rhs parent k1 k2 place list) }
-    ensures { Became a result (after plan g rhs parent k1 k2 place list) (lowered (hunt a plan.now) (core (before plan g rhs parent k1 k2 place list)) u) }
+    requires { Lowering a count u at (tables plan.now g.old rhs.old parent.old k1.old k2.old place.old list.old) }
+    ensures { Became a result (tables plan.now g.new rhs.new parent.new k1.new k2.new place.new list.new) (lowered (hunt a plan.now) (core (tables plan.now g.old rhs.old parent.old k1.old k2.old place.old list.old)) u) }
 {
     let v = rhs[u];
     g[u] = v;
@@ -83,8 +83,8 @@ fn raise(
     u: usize,
     at: Spot,
 ) -> usize
-    requires { ReadyAt a most_g count u at (given plan g rhs parent k1 k2 place list) }
-    ensures { Became a result (after plan g rhs parent k1 k2 place list) (raised (hunt a plan.now) (core (before plan g rhs parent k1 k2 place list)) u) }
+    requires { ReadyAt a most_g count u at (tables plan.now g.old rhs.old parent.old k1.old k2.old place.old list.old) }
+    ensures { Became a result (tables plan.now g.new rhs.new parent.new k1.new k2.new place.new list.new) (raised (hunt a plan.now) (core (tables plan.now g.old rhs.old parent.old k1.old k2.old place.old list.old)) u) }
 {
     g[u] = tables::INFINITE;
     let mut n = count;
@@ -109,8 +109,8 @@ fn step(
     count: usize,
     u: usize,
 ) -> usize
-    requires { Stepping a count u (given plan g rhs parent k1 k2 place list) }
-    ensures { Became a result (after plan g rhs parent k1 k2 place list) (stepped (hunt a plan.now) (core (before plan g rhs parent k1 k2 place list)) u) }
+    requires { Stepping a count u (tables plan.now g.old rhs.old parent.old k1.old k2.old place.old list.old) }
+    ensures { Became a result (tables plan.now g.new rhs.new parent.new k1.new k2.new place.new list.new) (stepped (hunt a plan.now) (core (tables plan.now g.old rhs.old parent.old k1.old k2.old place.old list.old)) u) }
 {
     let at = plan::spot_of(a.width, u);
     if choices::stale(a, g, rhs, k1, k2, u, at) {
@@ -145,8 +145,8 @@ pub fn run(
     limit: usize,
 ) -> Ran
     requires aimed { Aimed a plan.now }
-    requires started { Started a limit count (given plan g rhs parent k1 k2 place list) }
-    ensures { Finished a limit count (before plan g rhs parent k1 k2 place list) (after plan g rhs parent k1 k2 place list) result.count result.steps result.ended }
+    requires started { Started a limit count (tables plan.now g.old rhs.old parent.old k1.old k2.old place.old list.old) }
+    ensures { Finished a limit count (tables plan.now g.old rhs.old parent.old k1.old k2.old place.old list.old) (tables plan.now g.new rhs.new parent.new k1.new k2.new place.new list.new) result.count result.steps result.ended }
 {
     let mut n = count;
     let mut steps = 0usize;

@@ -8,7 +8,7 @@ ghost use Rattle.method.specs.Tables.{NotAbove};
 ghost use Rattle.queue.specs.Rules.{Lengths};
 ghost use Rattle.plan.specs.Cells.{Size};
 ghost use Rattle.plan.specs.Costs.{plan_of};
-ghost use Rattle.tables.specs.Lent.{cells, given, before, Fits};
+ghost use Rattle.tables.specs.Lent.{tables, cells, Fits};
 ghost use Rattle.tables.specs.Sound.{Sound};
 ghost use Rattle.tables.specs.Rules.{Numbers, SumRule, MoveRule, WayRule, OwnRule, WaitingRule, AloneRule, FirstFault};
 ghost use Rattle.tables.specs.Asked.{CellAsked, AloneAsked, WayAsked};
@@ -58,7 +58,7 @@ pub fn lengths_hold(
     list: &[u16],
 ) -> bool
     requires { Size width height }
-    ensures { Decides result (Fits (height * width) (before plan g rhs parent k1 k2 place list)) }
+    ensures { Decides result (Fits (height * width) (tables plan.now g.now rhs.now parent.now k1.now k2.now place.now list.now)) }
 {
     let cells = height * width;
     if plan.len() != 4 * cells {
@@ -309,8 +309,8 @@ pub fn first_fault(
     list: &[u16],
 ) -> Fault
     requires size { Size s.width s.height }
-    requires fits { Fits (cells s) (given plan g rhs parent k1 k2 place list) }
-    ensures { FirstFault s (before plan g rhs parent k1 k2 place list) result }
+    requires fits { Fits (cells s) (tables plan.now g.now rhs.now parent.now k1.now k2.now place.now list.now) }
+    ensures { FirstFault s (tables plan.now g.now rhs.now parent.now k1.now k2.now place.now list.now) result }
 {
     if !numbers_hold(s) {
         return Fault::InRecord;
@@ -349,8 +349,8 @@ pub fn is_sound(
     list: &[u16],
 ) -> bool
     requires size { Size s.width s.height }
-    requires fits { Fits (cells s) (given plan g rhs parent k1 k2 place list) }
-    ensures { Decides result (Sound s (before plan g rhs parent k1 k2 place list)) }
+    requires fits { Fits (cells s) (tables plan.now g.now rhs.now parent.now k1.now k2.now place.now list.now) }
+    ensures { Decides result (Sound s (tables plan.now g.now rhs.now parent.now k1.now k2.now place.now list.now)) }
 {
     let fault = first_fault(s, plan, g, rhs, parent, k1, k2, place, list);
     if let Fault::Nowhere = fault {

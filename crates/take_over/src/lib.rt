@@ -1,7 +1,7 @@
 // Before its steps a search takes over the target and the hunter as placed, or starts fresh.
 ghost use Rattle.std.specs.Prelude.{◌≡◌};
 ghost use Rattle.queue.specs.Queue.{EntryKept};
-ghost use Rattle.tables.specs.Lent.{given, before, after};
+ghost use Rattle.tables.specs.Lent.{tables};
 ghost use Rattle.tables.specs.Sound.{Sound};
 ghost use Rattle.take_over.specs.TakeOver.{aimed_anew, hand_over, Aiming, Handing, Holds, Takes};
 
@@ -38,8 +38,8 @@ fn hand_over(
     place: &mut [u16],
     list: &mut [u16],
 ) -> Session
-    requires { Handing s (given plan g rhs parent k1 k2 place list) }
-    ensures holds { Holds s (hand_over s (before plan g rhs parent k1 k2 place list)) result (after plan g rhs parent k1 k2 place list) }
+    requires { Handing s (tables plan.now g.now rhs.old parent.old k1.old k2.old place.old list.old) }
+    ensures holds { Holds s (hand_over s (tables plan.now g.now rhs.old parent.old k1.old k2.old place.old list.old)) result (tables plan.now g.now rhs.new parent.new k1.new k2.new place.new list.new) }
     ensures entry_kept { EntryKept s.count k1.old k2.old place.old list.old result.count k1.new k2.new place.new list.new }
 {
     let h = s.hunter;
@@ -66,8 +66,8 @@ pub fn take_over(
     place: &mut [u16],
     list: &mut [u16],
 ) -> Session
-    requires { Sound s (given plan g rhs parent k1 k2 place list) }
-    ensures { Takes s (before plan g rhs parent k1 k2 place list) result (after plan g rhs parent k1 k2 place list) }
+    requires { Sound s (tables plan.now g.old rhs.old parent.old k1.old k2.old place.old list.old) }
+    ensures { Takes s (tables plan.now g.old rhs.old parent.old k1.old k2.old place.old list.old) result (tables plan.now g.new rhs.new parent.new k1.new k2.new place.new list.new) }
 {
     if RENEWAL <= s.searches {
         return entries::begin(s, plan, g, rhs, parent, k1, k2, place, list);

@@ -1,7 +1,7 @@
 // The least cost of any walk over a plan through one named move.
 ghost use Rattle.std.specs.Prelude.{◌≡◌, ◌*◌, ◌<◌};
 ghost use Rattle.plan.specs.Costs.{plan_of, Obeys};
-ghost use Rattle.tables.specs.Lent.{given, Fits};
+ghost use Rattle.tables.specs.Lent.{tables, Fits};
 ghost use Rattle.through.specs.Through.{cost_in, Readable, LeastCost, ThroughRules, Passes};
 
 use entries;
@@ -38,7 +38,7 @@ fn searched(
 ) -> u32
     requires obeys { Obeys (plan_of width height plan.now) }
     requires from_bound { (from < height * width) × (to < height * width) }
-    requires fits { Fits (height * width) (given plan g rhs parent k1 k2 place list) }
+    requires fits { Fits (height * width) (tables plan.now g.old rhs.old parent.old k1.old k2.old place.old list.old) }
     ensures { LeastCost (plan_of width height plan.now) from to result }
 {
     let placed = entries::placed_on(width, height, from, to);
