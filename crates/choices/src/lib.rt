@@ -1,4 +1,6 @@
 // What a step of a search chooses, reading the tables and writing nothing: the next cell, whether it is put back, and what each of its open moves does.
+#![tactic(auto)]
+
 ghost use Rattle.std.specs.Prelude.{◌≡◌, ltb};
 ghost use Rattle.method.specs.Tables.{key_number, first_key, stored_key, calculated_key};
 ghost use Rattle.tables.specs.Lent.{tables, core};

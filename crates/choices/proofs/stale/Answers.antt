@@ -1,0 +1,10 @@
+-- The stored key against the key that `first_key` calculates (`stale_is` in KeyLaws).
+use Rattle.choices.proofs.KeyLaws.{stale_is}
+use Rattle.choices.proofs.stale.Goals as goal
+
+pub returns : goal.returns
+returns c = stale_is
+    c.requires
+    c.lesser-m.ensures
+    c.first_key-first.ensures
+    c.precedes.ensures
