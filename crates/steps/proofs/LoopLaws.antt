@@ -29,6 +29,11 @@ use Rattle.choices.specs.declared.Choice.{Choice}
 use Rattle.choices.specs.declared.Choice.TheVariants.{Done, On}
 use Rattle.steps.proofs.StepLaws.{became_held}
 
+-- a choice that is on no cell
+pub done_unless : {r : Choice} → ((u : ℕ) → r ≡ On u → ⊥) → r ≡ Done
+done_unless {r = Done} n = refl
+done_unless {r = On u} n = absurd (n u refl)
+
 -- what the rest of a run still does is what the whole run does
 pub record Rest (H : Hunt) (T₀ T : method.Tables) (limit steps : ℕ) : Type 0 where
   pub fuel : steps ≤ limit

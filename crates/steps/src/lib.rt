@@ -1,4 +1,6 @@
 // The steps of a search over the lent tables: put back, lower, raise, and the loop over them, up to a limit.
+#![tactic(auto)]
+
 ghost use Rattle.method.specs.Steps.{lowered, raised, stepped};
 ghost use Rattle.queue.specs.Queue.{EntryKept};
 ghost use Rattle.tables.specs.Lent.{tables, core};
