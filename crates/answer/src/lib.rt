@@ -1,4 +1,6 @@
 // What a search answers: caught, none, or the way, whose cells from parent to parent are written hunter first into a lent list.
+#![tactic(auto)]
+
 ghost use Rattle.answer.specs.Way.{Followed, Leading, Counts, Shows};
 ghost use Rattle.answer.specs.Answer.{told_by, Answering, Answers};
 
