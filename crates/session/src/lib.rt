@@ -1,4 +1,6 @@
 // The public calls that make a record: open, place hunter, place target. The answers and refusals of every call on a session.
+#![tactic(auto)]
+
 ghost use Rattle.decide.specs.Ruled.{Passed};
 ghost use Rattle.tables.specs.Lent.{tables};
 ghost use Rattle.session.specs.Refusals.{PlaceRules, OpenRules, TableRules};
