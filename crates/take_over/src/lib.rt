@@ -1,4 +1,6 @@
 // Before its steps a search takes over the target and the hunter as placed, or starts fresh.
+#![tactic(auto)]
+
 ghost use Rattle.std.specs.Prelude.{◌≡◌};
 ghost use Rattle.queue.specs.Queue.{EntryKept};
 ghost use Rattle.tables.specs.Lent.{tables};
