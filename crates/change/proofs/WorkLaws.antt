@@ -35,6 +35,11 @@ use Rattle.change.specs.Refusals.{Workable}
 use Rattle.change.specs.Effects.{Touches, Deciding, Asks, keeps, falls, rises}
 use Rattle.change.specs.Promise.{with_plan, replanned, entered_cell, back_code, old_cost, method_change, WorkedIn}
 
+-- what takes nothing keeps
+pub keeps_unless : {r : Asked} → ((u : ℕ) (f : Found) → r ≡ Takes u f → ⊥) → r ≡ Keeps
+keeps_unless {r = Keeps} n = refl
+keeps_unless {r = Takes u f} n = absurd (n u f refl)
+
 -- ---- the method's change, case by case
 
 module _ (H : Hunt) (T : method.Tables) (v k u old new : ℕ) where
