@@ -1,4 +1,6 @@
 // One search: the refusals, the take-over, the steps, and the answer with its way.
+#![tactic(auto)]
+
 ghost use Rattle.std.specs.Prelude.{◌≤◌, length};
 ghost use Rattle.tables.specs.Lent.{tables, cells};
 ghost use Rattle.tables.specs.Sound.{Sound};

@@ -1,0 +1,42 @@
+-- Caught, or taken over, run and answered: each part has the method's tables and answer by its own promise, and SearchLaws puts them together (`searched`).
+use mathlib.Core.Path.{refl}
+use native.Mathlib.Omega.{arith}
+use Rattle.search.proofs.SearchLaws.{searched_caught, run_aimed, run_started, few_searches, answering, searched}
+use Rattle.search.proofs.search_sound.Goals as goal
+
+pub returns-then-s : goal.returns-then-s
+returns-then-s c = searched_caught c.requires.0 c.if-s.true c.requires.1 refl
+
+pub run-ran-requires-clause-aimed : goal.run-ran-requires-clause-aimed
+run-ran-requires-clause-aimed c = let S = c.requires.0 in
+    run_aimed S c.take_over-t.ensures c.aim_of-a.ensures
+
+pub run-ran-requires-clause-started : goal.run-ran-requires-clause-started
+run-ran-requires-clause-started c = let S = c.requires.0 in
+    run_started S c.take_over-t.ensures c.aim_of-a.ensures
+
+pub overflow_add-t : goal.overflow_add-t
+overflow_add-t c = omega (
+  arith,
+  few_searches
+      c.requires.0
+      c.take_over-t.ensures
+      c.aim_of-a.ensures,
+)
+
+pub answered-answer-requires : goal.answered-answer-requires
+answered-answer-requires c = answering
+    c.requires.0
+    c.take_over-t.ensures
+    c.aim_of-a.ensures
+    c.run-ran.ensures
+    c.requires.1
+
+pub returns : goal.returns
+returns c = searched
+    c.requires.0
+    c.take_over-t.ensures
+    c.aim_of-a.ensures
+    c.run-ran.ensures
+    c.if-s.false
+    c.answered-answer.ensures
