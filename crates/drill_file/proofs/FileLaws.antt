@@ -1,25 +1,19 @@
 -- Laws of the drill file: what a test chooses, the trailer, the actions and the number of the form.
 use mathlib.Core.Path.{◌≡◌, refl, sym, ap, subst, ◌∙◌}
-use mathlib.Core.Bool.{true, false, not, Bool-discrete}
+use mathlib.Core.Bool.{true, false, Bool-discrete}
 use mathlib.Core.Logic.Dec
-use mathlib.Core.Logic.{⊎_elim}
-use mathlib.Core.List.{List, [], ◌∷◌}
+use mathlib.Core.List.{List, ◌∷◌}
 use Prim.Native.Nat.{ℕ, zero, suc, ◌+◌, ◌*◌, ◌-◌, ◌<◌, ◌≤◌}
 use native.Mathlib.Decide.{ℕ_discrete, dec_le}
-use native.Mathlib.Nat.{add_assoc}
 use native.Mathlib.Omega.{arith}
-use lib.Dec.{T}
 use lib.ListN.{length, get_or}
 use Rattle.decide.specs.Choose.{choose}
 use Rattle.decide.proofs.ChooseLaws.{choose_yes, choose_no, choose_is}
 use Rattle.plan.proofs.MoveLaws.{area}
-use types.Run.{OneOf}
-use denote.Enum.Declared.{tag_of}
 use Rattle.drill_file.specs.declared.Action.{Action}
 use Rattle.drill_file.specs.declared.Action.TheVariants.{Change, Hunter, Target, Search, Bad}
 use Rattle.drill_file.specs.declared.Trailer.{Trailer}
-use Rattle.drill_file.specs.File.{two, trailer_at, trailer_of, no_trailer, trailer_in, cells, action_at, actions_from, is_bad, well_formed, is_size, form_number, cells_told, cells_in}
-use Rattle.drill_file.specs.contracts.Action.{the_type}
+use Rattle.drill_file.specs.File.{trailer_of, no_trailer, trailer_in, cells, action_at, actions_from, is_bad, well_formed, is_size, form_number, cells_told, cells_in}
 
 -- Where a test holds, what equals the first of two equals their choice ..
 pub chosen : {A P : Type 0} (d : Dec P) {a x : A} (b : A) → P → x ≡ a → x ≡ choose d a b
@@ -35,41 +29,32 @@ unfolding choose
 choice_of f (yes p) a b = refl
 choice_of f (no n) a b = refl
 
--- A trailer whose numbers were read one by one is the trailer at that place.
-pub trailer_read : (file : List ℕ) (at hunter target actions low high : ℕ)
-    → hunter ≡ two file (at + 2) → target ≡ two file (at + 4) → actions ≡ two file (at + 6) → low ≡ two file (at + 8) → high ≡ two file (at + 10)
-    → ◌≡◌ {A = Trailer} (record { width = get_or file at 0; height = get_or file (at + 1) 0; hunter = hunter; target = target; actions = actions; offset = low + 65536 * high }) (trailer_at file at)
-trailer_read file at hunter target actions low high h t a l g = rw (h, t, a, l, g, add_assoc at 8 2)
-
--- One of the first four variants is not badly formed.
-pub not_bad : (a : Action) → OneOf (0 ∷ 1 ∷ 2 ∷ 3 ∷ []) (tag_of the_type a) → false ≡ is_bad a
+-- An action of another variant is not badly formed.
+pub not_bad : (a : Action) → (a ≡ Bad → ⊥) → false ≡ is_bad a
 unfolding is_bad
-not_bad (Change u d cost) k = refl
-not_bad (Hunter s) k = refl
-not_bad (Target s) k = refl
-not_bad Search k = refl
-not_bad Bad k = absurd (none k)
-  where
-    none : OneOf (0 ∷ 1 ∷ 2 ∷ 3 ∷ []) 4 → ⊥
-    none k = ⊎_elim (λ e. omega (arith, e)) (⊎_elim (λ e. omega (arith, e)) (⊎_elim (λ e. omega (arith, e)) (λ e. omega (arith, e)))) k
+not_bad (Change u d cost) n = refl
+not_bad (Hunter s) n = refl
+not_bad (Target s) n = refl
+not_bad Search n = refl
+not_bad Bad n = absurd (n refl)
 
 -- One action that is not badly formed does not change whether all are well formed ..
-well_more : (a : Action) (l : List Action) → T (not (is_bad a)) → well_formed (a ∷ l) ≡ well_formed l
+pub well_more : (a : Action) (l : List Action) → is_bad a ≡ false → well_formed (a ∷ l) ≡ well_formed l
 unfolding well_formed is_bad
-well_more (Change u d cost) l k = refl
-well_more (Hunter s) l k = refl
-well_more (Target s) l k = refl
-well_more Search l k = refl
-well_more Bad l k = absurd k
+well_more (Change u d cost) l e = refl
+well_more (Hunter s) l e = refl
+well_more (Target s) l e = refl
+well_more Search l e = refl
+well_more Bad l e = cc
 
 -- .. and one that is decides by itself.
-well_less : (a : Action) (l : List Action) → T (is_bad a) → well_formed (a ∷ l) ≡ false
+pub well_less : (a : Action) (l : List Action) → is_bad a ≡ true → well_formed (a ∷ l) ≡ false
 unfolding well_formed is_bad
-well_less (Change u d cost) l k = absurd k
-well_less (Hunter s) l k = absurd k
-well_less (Target s) l k = absurd k
-well_less Search l k = absurd k
-well_less Bad l k = refl
+well_less (Change u d cost) l e = cc
+well_less (Hunter s) l e = cc
+well_less (Target s) l e = cc
+well_less Search l e = cc
+well_less Bad l e = refl
 
 module _ (file : List ℕ) (at : ℕ) where
   -- The first of some actions, and those after it.
@@ -79,11 +64,11 @@ module _ (file : List ℕ) (at : ℕ) where
   first (suc n) l = let e : suc n - 1 ≡ n = omega arith in rw e
 
   -- Past an action that is not badly formed, the rest decides ..
-  pub goes_on : (n : ℕ) → 0 < n → T (not (is_bad (action_at file at))) → well_formed (actions_from file at n) ≡ well_formed (actions_from file (at + 5) (n - 1))
+  pub goes_on : (n : ℕ) → 0 < n → is_bad (action_at file at) ≡ false → well_formed (actions_from file at n) ≡ well_formed (actions_from file (at + 5) (n - 1))
   goes_on n l k = ap well_formed (first n l) ∙ well_more _ _ k
 
   -- .. a badly formed action decides by itself ..
-  pub stops : (n : ℕ) → 0 < n → T (is_bad (action_at file at)) → well_formed (actions_from file at n) ≡ false
+  pub stops : (n : ℕ) → 0 < n → is_bad (action_at file at) ≡ true → well_formed (actions_from file at n) ≡ false
   stops n l k = ap well_formed (first n l) ∙ well_less _ _ k
 
   -- .. and where none is left, all were well formed.

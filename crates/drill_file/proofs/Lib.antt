@@ -1,4 +1,2 @@
 pub mod FileLaws
 pub mod NumberLaws
-pub mod LoopSteps
-pub mod OneReader

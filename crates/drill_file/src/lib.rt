@@ -1,4 +1,6 @@
 // The drill file: its trailer, its actions through a reader, and whether it is well formed.
+#![tactic(auto)]
+
 ghost use Rattle.std.specs.Prelude.{◌≡◌, ◌+◌, ◌*◌, ◌≤◌, ◌<◌, ◌^◌, length};
 ghost use Rattle.drill_file.specs.File.{two, trailer_of, trailer_in, action_of, action_at, actions_from, is_bad, well_formed, form_number, cells_told};
 
