@@ -1,0 +1,7 @@
+-- The costs up to the i-th listed cell are put (`RunTo`).
+use Rattle.plan.specs.Costs.{plan_of}
+use Rattle.along.proofs.AlongLaws.{RunTo}
+use Rattle.along.proofs.put_costs.Given as goal
+
+abbrev pub invariant-loop-i : goal.invariant-loop-i
+invariant-loop-i l = RunTo (plan_of l.width l.height l.plan) l.cells l.initial.costs l.i l.sum l.costs
