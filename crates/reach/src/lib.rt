@@ -1,4 +1,6 @@
 // Why this way, why none: the cells that the hunter can reach, one bit for each and a row in one number, and the shut moves that lead out of them.
+#![tactic(auto)]
+
 ghost use Rattle.std.specs.Prelude.{◌≡◌, ℕ, ◌+◌, ◌*◌, ◌/◌, ◌%◌, ◌<◌, ◌≤◌, length};
 ghost use Rattle.decide.specs.Decides.{Decides};
 ghost use Rattle.decide.specs.Ruled.{Passed};
