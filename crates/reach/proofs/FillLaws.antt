@@ -214,10 +214,6 @@ module _ {p : Plan} (O : Obeys p) {h : ℕ} (lh : h < cells p) {rows list : List
 
 -- ---- one look
 
--- The move is shut, or the cell that it enters is marked.
-pub nothing_new : {p : Plan} {x : ℕ} {rows list : List ℕ} {count : ℕ} → Filled p rows list count → Grown p x rows list count rows list count
-nothing_new F = record { filled = F; le = omega arith; kept = λ i _. refl; grows = λ s m. m; from = λ i k j. absurd (omega arith) }
-
 -- The cell that it enters is new.
 module _ {p : Plan} (O : Obeys p) {rows list : List ℕ} {count : ℕ} (F : Filled p rows list count) {x d : ℕ} (I : Within p.width p.height x) (ld : d < 4)
     (n : byte p (cell_by p.width x) d ≢ shut) {at : Spot} (A : At p.width (entered p.width (cell_by p.width x) d) at)
@@ -242,28 +238,10 @@ module _ {p : Plan} (O : Obeys p) {rows list : List ℕ} {count : ℕ} (F : Fill
 
 -- ---- one look after the other
 
--- What two looks add, and what was looked at stays so.
-pub grown_on : {p : Plan} {x : ℕ} {r₁ l₁ : List ℕ} {n₁ : ℕ} {r₂ l₂ : List ℕ} {n₂ : ℕ} {r₃ l₃ : List ℕ} {n₃ : ℕ}
-    → Grown p x r₁ l₁ n₁ r₂ l₂ n₂ → Grown p x r₂ l₂ n₂ r₃ l₃ n₃ → Grown p x r₁ l₁ n₁ r₃ l₃ n₃
-grown_on {p} {x} {l₂ = l₂} {n₂ = n₂} {l₃ = l₃} {n₃ = n₃} A B = record {
-  filled = B.filled;
-  le = omega (arith, A.le, B.le);
-  kept = λ i l. B.kept i (omega (arith, A.le)) ∙ A.kept i l;
-  grows = λ s m. B.grows s (A.grows s m);
-  from = λ i k l. from i l (A.from i k) (dec_lt i n₂);
-}
-  where
-    from : (i : ℕ) → i < n₃ → (i < n₂ → Reachable p (cell_by p.width x) (cell_by p.width (get_or l₂ i 0))) → Dec (i < n₂) → Reachable p (cell_by p.width x) (cell_by p.width (get_or l₃ i 0))
-    from i l h (yes m) = rw (B.kept i m) (h m)
-    from i l h (no m) = B.from i (omega arith) l
-
+-- What was looked at stays so.
 looked_on : {p : Plan} {y : ℕ} {rows list : List ℕ} {count : ℕ} {rows' list' : List ℕ} {count' : ℕ} (x n : ℕ) → Grown p y rows list count rows' list' count'
     → Looked p rows x n → Looked p rows' x n
 looked_on {p} x n B h d l o = B.grows (entered p.width (cell_by p.width x) d) (h d l o)
-
-pub looked_more : {p : Plan} {x : ℕ} {rows list : List ℕ} {count : ℕ} {rows' list' : List ℕ} {count' : ℕ} (d : ℕ) → Grown p x rows list count rows' list' count'
-    → Looked p rows x d → Looks p rows' x d → Looked p rows' x (d + 1)
-looked_more {p} {x} {rows' = rows'} d B h new = below_more (Looks p rows' x) d (looked_on x d B h) new
 
 -- ---- one cell after the other
 

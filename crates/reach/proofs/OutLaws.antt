@@ -1,5 +1,5 @@
 -- The shut moves that lead out, as the walk over the places finds them; two lists of them are equal.
-use mathlib.Core.Path.{◌≡◌, refl, ap, subst, ◌∙◌}
+use mathlib.Core.Path.{◌≡◌, refl, ap, ◌∙◌}
 use mathlib.Core.Bool.{Bool, true, false, not}
 use mathlib.Core.List.{List}
 use Prim.Native.Nat.{ℕ, zero, suc, ◌+◌, ◌/◌, ◌%◌, ◌≤◌, ◌<◌}
@@ -39,28 +39,7 @@ leads_as {p} {s = s} {d = d} O f g o = record {
 -- ---- the walk
 
 module _ {p : Plan} {In : ℕ → Type 0} where
-  pub outs_none : (list : List ℕ) → Outs p In list 0 0
-  outs_none list = record {
-    few = omega arith;
-    below = λ i l. absurd (omega arith);
-    each = λ i l. absurd (omega arith);
-    all = λ x l o. absurd (omega arith);
-    ordered = λ i j l m. absurd (omega arith);
-  }
-
-  pub outs_at : {list : List ℕ} {count : ℕ} (n k : ℕ) → n ≡ k → Outs p In list count n → Outs p In list count k
-  outs_at {list} {count} n k e = subst (Outs p In list count) e
-
   module _ {list : List ℕ} {count place : ℕ} (O : Outs p In list count place) where
-    pub outs_skip : (LeadsOut p In (place / 4) (place % 4) → ⊥) → Outs p In list count (place + 1)
-    outs_skip n = record {
-      few = omega (arith, O.few);
-      below = λ i l. omega (arith, O.below i l);
-      each = O.each;
-      all = below_more (λ x. LeadsOut p In (x / 4) (x % 4) → Listed list count x) place O.all (λ o. absurd (n o));
-      ordered = O.ordered;
-    }
-
     pub outs_put : count < length list → LeadsOut p In (place / 4) (place % 4) → Outs p In (set list count place) (count + 1) (place + 1)
     outs_put room o = record {
       few = omega (arith, O.few);

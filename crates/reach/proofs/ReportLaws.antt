@@ -1,13 +1,11 @@
--- Copies, and the call's answers by what its parts found.
-use mathlib.Core.Path.{◌≡◌, refl, sym, subst, ◌∙◌}
+-- The call's answers by what its parts found.
+use mathlib.Core.Path.{◌≡◌, refl, sym, ◌∙◌}
 use mathlib.Core.Logic.{◌≢◌}
 use mathlib.Core.List.{List}
-use Prim.Native.Nat.{ℕ, ◌+◌, ◌*◌, ◌/◌, ◌%◌, ◌≤◌, ◌<◌}
+use Prim.Native.Nat.{ℕ, ◌*◌, ◌/◌, ◌%◌, ◌≤◌, ◌<◌}
 use native.Mathlib.Decide.{dec_lt}
 use native.Mathlib.Omega.{arith}
-use lib.ListN.{length, get_or, set, length-set, replicate, length-replicate, get_or-replicate, get_or-eq_default}
-use lib.Seq.{get_or-set_same, get_or-set_other}
-use borrow.Author.Count.{below_more}
+use lib.ListN.{length, get_or, replicate, length-replicate, get_or-replicate, get_or-eq_default}
 use Rattle.decide.specs.Ruled.{fails, holds, Passed, passed}
 use Rattle.decide.proofs.RuledLaws.{granted, further, passed_not}
 use Rattle.plan.specs.Costs.{Plan, plan_of, cells, Obeys}
@@ -19,24 +17,6 @@ use Rattle.reach.specs.Promise.{PlanRules, Room, Reports}
 use Rattle.reach.specs.Filling.{Copied}
 use Rattle.reach.specs.declared.Reaching.TheVariants.{Reaches, Refused}
 use Rattle.reach.proofs.OutLaws.{outs_as, fewest}
-
--- ---- copies
-
-pub copied_none : (from to : List ℕ) → Copied from to 0 to
-copied_none from to = record { first = λ i l. absurd (omega arith); kept = record { long = refl; rest = λ i l. refl } }
-
-pub copied_more : {from to : List ℕ} (n : ℕ) {to' : List ℕ} → Copied from to n to' → n < length to → Copied from to (n + 1) (set to' n (get_or from n 0))
-copied_more {from} {to} n {to'} C l = record {
-  first = below_more (λ i. get_or (set to' n (get_or from n 0)) i 0 ≡ get_or from i 0) n (λ i k. other i (λ e. omega arith) ∙ C.first i k)
-      (get_or-set_same to' n (get_or from n 0) 0 (omega (arith, C.kept.long)));
-  kept = record { long = length-set to' n (get_or from n 0) ∙ C.kept.long; rest = λ i k. other i (λ e. omega arith) ∙ C.kept.rest i (omega arith) };
-}
-  where
-    other : (i : ℕ) → i ≢ n → get_or (set to' n (get_or from n 0)) i 0 ≡ get_or to' i 0
-    other i m = get_or-set_other to' n i (get_or from n 0) 0 m
-
-pub copied_at : {from to to' : List ℕ} (n k : ℕ) → n ≡ k → Copied from to n to' → Copied from to k to'
-copied_at {from} {to} {to'} n k e = subst (λ x. Copied from to x to') e
 
 -- The part rests on the plan's rows alone.
 part_same : {p : Plan} {h : ℕ} {rows : List ℕ} (rows' : List ℕ) → Obeys p → ((r : ℕ) → r < p.height → get_or rows' r 0 ≡ get_or rows r 0) → Part p h rows → Part p h rows'

@@ -1,7 +1,7 @@
 -- What the functions that look at one move ask of its spot, and what its place says.
-use mathlib.Core.Path.{◌≡◌, ap, subst}
+use mathlib.Core.Path.{◌≡◌, ap}
 use mathlib.Core.List.{List}
-use Prim.Native.Nat.{ℕ, ◌+◌, ◌*◌, ◌/◌, ◌%◌, ◌≤◌, ◌<◌}
+use Prim.Native.Nat.{ℕ, ◌+◌, ◌/◌, ◌%◌, ◌≤◌, ◌<◌}
 use native.Mathlib.Omega.{arith}
 use lib.ListN.{length, get_or}
 use Rattle.plan.specs.Directions.{row_step, column_step}
@@ -22,7 +22,3 @@ module _ {p : Plan} (O : Obeys p) {u : ℕ} (lu : u < cells p) {at : Spot} (A : 
 -- The byte of a place is that of its cell and direction.
 pub byte_at : (p : Plan) (place : ℕ) → get_or p.bytes place 0 ≡ byte p (place / 4) (place % 4)
 byte_at p place = ap (λ i. get_or p.bytes i 0) (omega arith)
-
--- The places of a cell are four times its number and a direction.
-pub place_at : (width u d : ℕ) {at : Spot} → d < 4 → At width u at → At width ((4 * u + d) / 4) at
-place_at width u d {at} l a = let e : u ≡ (4 * u + d) / 4 = omega arith in subst (λ x. At width x at) e a

@@ -1,10 +1,6 @@
--- Element by element (`copied_more`).
-use Prim.Native.Nat.{◌≤◌, ◌-◌}
+-- Element by element.
 use Rattle.reach.specs.Filling.{Copied}
 use Rattle.reach.proofs.copy_rows.Given as goal
 
 abbrev pub invariant-loop-i : goal.invariant-loop-i
-invariant-loop-i l = (l.i ≤ l.n) × Copied l.from l.initial.to l.i l.to
-
-abbrev pub decreases-loop-i : goal.decreases-loop-i
-decreases-loop-i l = l.n - l.i
+invariant-loop-i l = Copied l.from l.initial.to l.i l.to

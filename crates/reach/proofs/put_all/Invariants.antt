@@ -1,7 +1,5 @@
 -- Cell by cell (`put_four`), up to the last of the plan; the walk carries the spot of the cell, so that it divides nothing.
-use mathlib.Core.Path.{◌≡◌}
-use Prim.Native.Nat.{◌*◌, ◌≤◌, ◌-◌}
-use lib.ListN.{length}
+use Rattle.std.proofs.Common.{◌*◌}
 use Rattle.plan.specs.Costs.{plan_of}
 use Rattle.plan.specs.Reached.{At}
 use Rattle.reach.specs.Bits.{Marked}
@@ -9,7 +7,7 @@ use Rattle.reach.specs.Outs.{Outs}
 use Rattle.reach.proofs.put_all.Given as goal
 
 abbrev pub invariant-loop-u : goal.invariant-loop-u
-invariant-loop-u l = (l.u ≤ l.cells) × Outs (plan_of l.width l.height l.plan) (Marked l.width l.rows) l.outs l.count (4 * l.u) × (length l.outs ≡ length l.initial.outs) × At l.width l.u l.at
-
-abbrev pub decreases-loop-u : goal.decreases-loop-u
-decreases-loop-u l = l.cells - l.u
+invariant-loop-u l = record {
+  outs : Outs (plan_of l.width l.height l.plan) (Marked l.width l.rows) l.outs l.count (4 * l.u);
+  place : At l.width l.u l.at;
+}

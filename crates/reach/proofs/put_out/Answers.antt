@@ -1,4 +1,4 @@
--- The place is passed over or put at the end, as its move says (`outs_skip`, `outs_put`).
+-- The place is put at the end where its move leads out (`outs_put`).
 use native.Mathlib.Omega.{arith}
 use Rattle.reach.proofs.OutLaws.{outs_put}
 use Rattle.reach.proofs.put_out.Goals as goal

@@ -1,48 +1,59 @@
--- An open move stays in the plan; the cell that it enters is marked already, or it is marked now (`nothing_new`, `one_new`).
-use mathlib.Core.Path.{refl}
-use Prim.Native.Nat.{◌*◌, ◌/◌, ◌%◌, ◌<◌}
+-- An open move stays in the plan; the cell that it enters is marked already, or it is marked now (`one_new`).
+use Rattle.std.proofs.Common.{◌≡◌, ◌≢◌, refl, ℕ, ◌+◌, ◌/◌, ◌%◌, ◌<◌}
 use Rattle.decide.proofs.DecideLaws.{refuted}
+use Rattle.plan.specs.Directions.{row_step, column_step}
 use Rattle.plan.specs.Cells.{Stays, entered}
+use Rattle.plan.specs.Costs.{Plan, byte, shut, Obeys}
 use Rattle.plan.specs.Reached.{At}
+use Rattle.plan.specs.declared.Spot.{Spot}
 use Rattle.plan.proofs.MoveLaws.{open_stays, entered_in, moved_at}
-use Rattle.reach.specs.Bits.{Marked}
-use Rattle.reach.specs.Filling.{cell_by}
+use Rattle.reach.specs.Filling.{cell_by, Within}
 use Rattle.reach.proofs.SpotLaws.{marked_asks, move_asks}
 use Rattle.reach.proofs.FillLaws.{in_plan, new_asks, one_new}
 use Rattle.reach.proofs.visit.Goals as goal
 
+-- The spot of x, a cell of the list.
+stands : {width height x : ℕ} → Within width height x → At width (cell_by width x) (record { row = x / 64; column = x % 64 })
+stands I = record { column_lt = I.column_lt; is = refl }
+
+-- Its open move stays in the plan, and the spot that the move leads to is that of the cell entered.
+module _ {p : Plan} (O : Obeys p) {x d : ℕ} (I : Within p.width p.height x) (ld : d < 4) (n : byte p (cell_by p.width x) d ≢ shut) where
+  keeps_in : Stays p.width p.height (cell_by p.width x) d
+  keeps_in = open_stays p O _ _ (in_plan I) ld n
+
+  there : {to : Spot} → (to.row + 1 ≡ x / 64 + row_step d) × (to.column + 1 ≡ x % 64 + column_step d) → At p.width (entered p.width (cell_by p.width x) d) to
+  there e = moved_at O.size.wide (stands I) keeps_in e
+
 pub moved-to-requires-clause-bound : goal.moved-to-requires-clause-bound
-moved-to-requires-clause-bound c = let stands : At c.args.width ((cell_by c.args.width c.args.x)) (record { row = c.args.x / 64; column = c.args.x % 64 }) = record { column_lt = c.requires.within.0.column_lt; is = refl } in
-    let stays : Stays c.args.width c.args.height ((cell_by c.args.width c.args.x)) c.args.d = open_stays _ c.requires.obeys _ _ (in_plan c.requires.within.0) c.requires.within.1 c.if-plan-row.false in (move_asks c.requires.obeys (in_plan c.requires.within.0) stands c.requires.within.1 stays).1
+moved-to-requires-clause-bound c =
+    let w = c.requires.within in
+    (move_asks c.requires.obeys (in_plan w.0) (stands w.0) w.1 (keeps_in c.requires.obeys w.0 w.1 c.if-plan-row.false)).1
 
 pub is_marked-requires : goal.is_marked-requires
-is_marked-requires c = let stays : Stays c.args.width c.args.height ((cell_by c.args.width c.args.x)) c.args.d = open_stays _ c.requires.obeys _ _ (in_plan c.requires.within.0) c.requires.within.1 c.if-plan-row.false in
-    let inside : entered c.args.width ((cell_by c.args.width c.args.x)) c.args.d < c.args.height * c.args.width = entered_in _ c.requires.obeys _ _ (in_plan c.requires.within.0) c.requires.within.1 stays in
-    let stands : At c.args.width ((cell_by c.args.width c.args.x)) (record { row = c.args.x / 64; column = c.args.x % 64 }) = record { column_lt = c.requires.within.0.column_lt; is = refl } in
-    let to_at : At c.args.width (entered c.args.width ((cell_by c.args.width c.args.x)) c.args.d) c.moved-to.result = moved_at c.requires.obeys.size.wide stands stays c.moved-to.ensures in
-    marked_asks c.requires.obeys inside to_at c.args.rows.now c.requires.filled.rowed
+is_marked-requires c =
+    let w = c.requires.within in
+    let inside = entered_in _ c.requires.obeys _ _ (in_plan w.0) w.1 (keeps_in c.requires.obeys w.0 w.1 c.if-plan-row.false) in
+    marked_asks c.requires.obeys inside (there c.requires.obeys w.0 w.1 c.if-plan-row.false c.moved-to.ensures) c.args.rows.now c.requires.filled.rowed
 
 pub returns-then-is_marked-clause-looks : goal.returns-then-is_marked-clause-looks
-returns-then-is_marked-clause-looks c = let stands : At c.args.width ((cell_by c.args.width c.args.x)) (record { row = c.args.x / 64; column = c.args.x % 64 }) = record { column_lt = c.requires.within.0.column_lt; is = refl } in
-    let stays : Stays c.args.width c.args.height ((cell_by c.args.width c.args.x)) c.args.d = open_stays _ c.requires.obeys _ _ (in_plan c.requires.within.0) c.requires.within.1 c.if-plan-row.false in
-    let to_at : At c.args.width (entered c.args.width ((cell_by c.args.width c.args.x)) c.args.d) c.moved-to.result = moved_at c.requires.obeys.size.wide stands stays c.moved-to.ensures in
-    λ _. (c.is_marked.ensures _ _ to_at).so c.if-is_marked.true
+returns-then-is_marked-clause-looks c =
+    let w = c.requires.within in
+    λ _. (c.is_marked.ensures _ _ (there c.requires.obeys w.0 w.1 c.if-plan-row.false c.moved-to.ensures)).so c.if-is_marked.true
 
 pub mark-requires : goal.mark-requires
-mark-requires c = let stands : At c.args.width ((cell_by c.args.width c.args.x)) (record { row = c.args.x / 64; column = c.args.x % 64 }) = record { column_lt = c.requires.within.0.column_lt; is = refl } in
-    let stays : Stays c.args.width c.args.height ((cell_by c.args.width c.args.x)) c.args.d = open_stays _ c.requires.obeys _ _ (in_plan c.requires.within.0) c.requires.within.1 c.if-plan-row.false in
-    let to_at : At c.args.width (entered c.args.width ((cell_by c.args.width c.args.x)) c.args.d) c.moved-to.result = moved_at c.requires.obeys.size.wide stands stays c.moved-to.ensures in
-    let not_marked : Marked c.args.width c.args.rows.now (entered c.args.width ((cell_by c.args.width c.args.x)) c.args.d) → ⊥ = refuted (c.is_marked.ensures _ _ to_at) c.if-is_marked.false in
-    new_asks c.requires.obeys c.requires.filled c.requires.within.0 c.requires.within.1 c.if-plan-row.false to_at not_marked
+mark-requires c =
+    let w = c.requires.within in
+    let at = there c.requires.obeys w.0 w.1 c.if-plan-row.false c.moved-to.ensures in
+    new_asks c.requires.obeys c.requires.filled w.0 w.1 c.if-plan-row.false at (refuted (c.is_marked.ensures _ _ at) c.if-is_marked.false)
 
 pub returns-clause-grown : goal.returns-clause-grown
-returns-clause-grown c = let stands : At c.args.width ((cell_by c.args.width c.args.x)) (record { row = c.args.x / 64; column = c.args.x % 64 }) = record { column_lt = c.requires.within.0.column_lt; is = refl } in
-    let stays : Stays c.args.width c.args.height ((cell_by c.args.width c.args.x)) c.args.d = open_stays _ c.requires.obeys _ _ (in_plan c.requires.within.0) c.requires.within.1 c.if-plan-row.false in
-    let to_at : At c.args.width (entered c.args.width ((cell_by c.args.width c.args.x)) c.args.d) c.moved-to.result = moved_at c.requires.obeys.size.wide stands stays c.moved-to.ensures in
-    let not_marked : Marked c.args.width c.args.rows.now (entered c.args.width ((cell_by c.args.width c.args.x)) c.args.d) → ⊥ = refuted (c.is_marked.ensures _ _ to_at) c.if-is_marked.false in (one_new c.requires.obeys c.requires.filled c.requires.within.0 c.requires.within.1 c.if-plan-row.false to_at not_marked c.mark.ensures).0
+returns-clause-grown c =
+    let w = c.requires.within in
+    let at = there c.requires.obeys w.0 w.1 c.if-plan-row.false c.moved-to.ensures in
+    (one_new c.requires.obeys c.requires.filled w.0 w.1 c.if-plan-row.false at (refuted (c.is_marked.ensures _ _ at) c.if-is_marked.false) c.mark.ensures).0
 
 pub returns-clause-looks : goal.returns-clause-looks
-returns-clause-looks c = let stands : At c.args.width ((cell_by c.args.width c.args.x)) (record { row = c.args.x / 64; column = c.args.x % 64 }) = record { column_lt = c.requires.within.0.column_lt; is = refl } in
-    let stays : Stays c.args.width c.args.height ((cell_by c.args.width c.args.x)) c.args.d = open_stays _ c.requires.obeys _ _ (in_plan c.requires.within.0) c.requires.within.1 c.if-plan-row.false in
-    let to_at : At c.args.width (entered c.args.width ((cell_by c.args.width c.args.x)) c.args.d) c.moved-to.result = moved_at c.requires.obeys.size.wide stands stays c.moved-to.ensures in
-    let not_marked : Marked c.args.width c.args.rows.now (entered c.args.width ((cell_by c.args.width c.args.x)) c.args.d) → ⊥ = refuted (c.is_marked.ensures _ _ to_at) c.if-is_marked.false in (one_new c.requires.obeys c.requires.filled c.requires.within.0 c.requires.within.1 c.if-plan-row.false to_at not_marked c.mark.ensures).1
+returns-clause-looks c =
+    let w = c.requires.within in
+    let at = there c.requires.obeys w.0 w.1 c.if-plan-row.false c.moved-to.ensures in
+    (one_new c.requires.obeys c.requires.filled w.0 w.1 c.if-plan-row.false at (refuted (c.is_marked.ensures _ _ at) c.if-is_marked.false) c.mark.ensures).1
