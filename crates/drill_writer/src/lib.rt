@@ -1,4 +1,6 @@
 // The drill file written: a plan, a hunter, a target and actions put into lent room as the reader takes them.
+#![tactic(auto)]
+
 ghost use Rattle.std.specs.Prelude.{◌≡◌, ◌+◌, ◌/◌, ◌%◌, ◌≤◌, length};
 ghost use Rattle.plan.specs.Cells.{Size};
 ghost use Rattle.drill_writer.specs.Drill.{trailer_bytes, trailer_for};

@@ -1,0 +1,11 @@
+-- The sides of the plan, and each number by its low and its high byte.
+use Rattle.std.proofs.Common.{arith}
+use Rattle.plan.proofs.MoveLaws.{area}
+use Rattle.drill_writer.proofs.ByteLaws.{trailer_of_bytes}
+use Rattle.drill_writer.proofs.trailer_bytes.Goals as goal
+
+pub returns : goal.returns
+returns c =
+    let s = c.args in
+    trailer_of_bytes s.width s.height s.hunter s.target s.count (omega (arith, area c.requires)) c.low_byte.ensures c.high_byte.ensures c.low_byte-2.ensures c.high_byte-2.ensures
+    c.low_byte-3.ensures c.high_byte-3.ensures c.low_byte-4.ensures c.high_byte-4.ensures
