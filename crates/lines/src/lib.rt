@@ -1,4 +1,6 @@
 // The lines that are printed, put into a lent buffer.
+#![tactic(auto)]
+
 ghost use Rattle.std.specs.Prelude.{◌+◌, ◌*◌, ◌≤◌, ◌++◌, length, take};
 ghost use Rattle.answer.specs.Answer.{count_of};
 ghost use Rattle.answer.specs.declared.Answer.TheVariants.{Way};
