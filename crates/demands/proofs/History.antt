@@ -58,17 +58,17 @@ history_sound (from_sound S) = S
 history_sound (and_then h c) = call_keeps_sound (history_sound h) c
 
 -- The history up to a point of it is a history.
-up_to : {s s₁ : Session} {t t₁ : Tables} {h : History s t} → PointOf h s₁ t₁ → History s₁ t₁
+up_to : {s₁ : Session} {t₁ : Tables} {s : Session} {t : Tables} {h : History s t} → PointOf h s₁ t₁ → History s₁ t₁
 up_to {h = h} now = h
 up_to (before p) = up_to p
 
 -- A search of it starts at a point of it ..
-point_of : {s s₁ : Session} {t t₁ t₂ : Tables} {h : History s t} {way way₂ : List ℕ} {r : Outcome} → SearchOf h s₁ t₁ way r t₂ way₂ → PointOf h s₁ t₁
+point_of : {s₁ : Session} {t₁ t₂ : Tables} {way way₂ : List ℕ} {r : Outcome} {s : Session} {t : Tables} {h : History s t} → SearchOf h s₁ t₁ way r t₂ way₂ → PointOf h s₁ t₁
 point_of (last P) = before now
 point_of (earlier x) = before (point_of x)
 
 -- .. and is what a search promises.
-promise_of : {s s₁ : Session} {t t₁ t₂ : Tables} {h : History s t} {way way₂ : List ℕ} {r : Outcome} → SearchOf h s₁ t₁ way r t₂ way₂ → Searches s₁ t₁ way r t₂ way₂
+promise_of : {s₁ : Session} {t₁ t₂ : Tables} {way way₂ : List ℕ} {r : Outcome} {s : Session} {t : Tables} {h : History s t} → SearchOf h s₁ t₁ way r t₂ way₂ → Searches s₁ t₁ way r t₂ way₂
 promise_of (last P) = P
 promise_of (earlier x) = promise_of x
 
