@@ -1,4 +1,6 @@
 // The least cost of any walk over a plan through one named move.
+#![tactic(auto)]
+
 ghost use Rattle.std.specs.Prelude.{◌≡◌, ◌*◌, ◌<◌};
 ghost use Rattle.plan.specs.Costs.{plan_of, Obeys};
 ghost use Rattle.tables.specs.Lent.{tables, Fits};
