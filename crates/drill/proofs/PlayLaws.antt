@@ -20,7 +20,6 @@ use Rattle.tables.specs.Lent.{Tables, frame, cells, floor}
 use Rattle.tables.specs.Sound.{Sound}
 use Rattle.tables.specs.Told.{Told}
 use Rattle.tables.proofs.SoundLaws.{sound_fits}
-use Rattle.session.specs.declared.Answer.{Answer}
 use Rattle.session.specs.declared.Reply.{Reply}
 use Rattle.session.specs.Promises.{hunter_at, target_at, Places}
 use Rattle.session.proofs.RefusalLaws.{answered, place_granted, sound_rules}

@@ -1,4 +1,6 @@
 // A drill's actions: each is played, and its line is put into the text.
+#![tactic(auto)]
+
 ghost use Rattle.std.specs.Prelude.{◌≡◌, ◌+◌, ◌≤◌, ◌<◌, length};
 ghost use Rattle.decide.specs.Decides.{Decides};
 ghost use Rattle.plan.specs.Cells.{Size};

@@ -1,0 +1,8 @@
+-- `drill::play_change` leaves what the definition says of a change, and puts the line of its reply (`change_replied`, `turns_of`).
+use Rattle.drill.proofs.PlayLaws.{change_replied, turns_of}
+use Rattle.drill.proofs.play_change.Goals as goal
+
+pub returns : goal.returns
+returns c = turns_of
+    (change_replied c.requires.sound c.change_sound-reply.ensures)
+    c.put_reply.ensures
