@@ -1,6 +1,5 @@
 -- What the rules and the answer of `along` settle, and how its costs are put one behind the other.
 use mathlib.Core.Path.{◌≡◌, refl, sym, ap, ◌∙◌}
-use mathlib.Core.Logic.{◌≢◌}
 use mathlib.Core.List.{List}
 use Prim.Native.Nat.{ℕ, zero, suc, ◌+◌, ◌*◌, ◌≤◌, ◌<◌}
 use native.Mathlib.Numerals.{add-one}
@@ -14,29 +13,19 @@ use Rattle.plan.specs.Toward.{Leads, Neighbours, Toward, leading, nowhere}
 use Rattle.plan.proofs.MoveLaws.{cost_of}
 use Rattle.along.specs.declared.Running.{Running}
 use Rattle.along.specs.declared.Running.TheVariants.{Costs, Refused}
-use Rattle.along.specs.Along.{RunningTold, running_told, told_running, cell_at, Onward, StepByte, Runs, AlongRules, Costable}
+use Rattle.along.specs.Along.{RunningTold, running_told, told_running, cell_at, Onward, StepByte, AlongRules, Costable}
 
 -- ---- one move
 
--- Of neighbours, the direction told leads from the one to the other; of others it is 4.
+-- Of neighbours, the direction told leads from the one to the other.
 toward_leads : {width height a b d : ℕ} → Toward width height a b d → Neighbours width height a b → Leads width height a d b
 toward_leads (leading l) n = l
 toward_leads (nowhere m) n = absurd (m n)
-
-toward_joins : {width height a b d : ℕ} → Toward width height a b d → d ≢ 4 → Neighbours width height a b
-toward_joins {d = d} (leading l) n = record { direction = d; leads = l }
-toward_joins (nowhere m) n = absurd (n refl)
 
 -- So it is for the i-th listed cell and the next.
 module _ {width height d : ℕ} (cells : List ℕ) (i : ℕ) (t : Toward width height (cell_at cells i) (cell_at cells (i + 1)) d) where
   next_told : Toward width height (cell_at cells i) (cell_at cells (suc i)) d
   next_told = rw add-one at t
-
-  pub pair_joins : d ≢ 4 → Neighbours width height (cell_at cells i) (cell_at cells (suc i))
-  pair_joins = toward_joins next_told
-
-  pub pair_apart : d ≡ 4 → Neighbours width height (cell_at cells i) (cell_at cells (suc i)) → ⊥
-  pair_apart e n = omega (arith, (toward_leads next_told n).direction)
 
   pub step_leads : Neighbours width height (cell_at cells i) (cell_at cells (suc i)) → Leads width height (cell_at cells i) d (cell_at cells (suc i))
   step_leads = toward_leads next_told
@@ -65,13 +54,7 @@ pub record RunTo (p : Plan) (cells costs₀ : List ℕ) (i sum : ℕ) (costs : L
   pub rest : drop (length cells) costs ≡ drop (length cells) costs₀
 
 module _ {p : Plan} {cells : List ℕ} where
-  -- The first cost is 0 ..
-  pub run_first : (costs : List ℕ) → 0 < length costs → RunTo p cells (set costs 0 0) 0 0 (set costs 0 0)
-  run_first costs l =
-      let e = get_or-set_same costs 0 0 0 l in
-      record { first = e; next = λ k m. absurd (omega arith); last = e; small = omega arith; long = refl; rest = refl }
-
-  -- .. each other that of the cell before, plus the cost of the move ..
+  -- Each but the first is that of the cell before, plus the cost of the move.
   pub run_next : {i sum : ℕ} {costs₀ costs : List ℕ} (b : ℕ) → i + 1 < length cells → length cells ≤ length costs → b ≤ 250 → StepByte p cells i b
       → RunTo p cells costs₀ i sum costs → RunTo p cells costs₀ (i + 1) (sum + b) (set costs (i + 1) (sum + b))
   run_next {i} {sum} {costs₀} {costs} b l room few is R = record {
@@ -95,10 +78,6 @@ module _ {p : Plan} {cells : List ℕ} where
       here : (d : ℕ) → Onward p cells i d → get_or (set costs (i + 1) (sum + b)) (suc i) 0 ≡ get_or (set costs (i + 1) (sum + b)) i 0 + byte p (cell_at cells i) d
       here d o = omega (arith, ap (λ k. get_or (set costs (i + 1) (sum + b)) k 0) (sym (add-one i)) ∙ same, other i (omega arith), R.last, is d o)
 
--- .. and so on to the last.
-pub run_whole : {p : Plan} {cells costs₀ costs : List ℕ} {i sum : ℕ} → length cells ≤ i + 1 → RunTo p cells costs₀ i sum costs → Runs p cells costs
-run_whole l R = record { first = R.first; next = λ k d m. R.next k (omega arith) d }
-
 -- ---- the answer
 
 -- The answer as the code returns it.
@@ -112,13 +91,6 @@ ran_is (Costs m) zero n l e = ap Costs (ap (λ (x : RunningTold). x.costs) e)
 ran_is (Costs m) (suc k) n l e = absurd (omega (arith, ap (λ (x : RunningTold). x.refusal) e))
 ran_is (Refused j) zero n l e = absurd (omega (arith, l refl, ap (λ (x : RunningTold). x.costs) e))
 ran_is (Refused j) (suc k) n l e = ap Refused (ap (λ (x : RunningTold). x.refusal) e)
-
-pub refusal_told : (k n : ℕ) → k ≢ 0 → running_told (Refused k) ≡ told_running k n
-refusal_told zero n h = absurd (h refl)
-refusal_told (suc k) n h = refl
-
-pub done_told : {k n : ℕ} → k ≡ 0 → running_told (Costs n) ≡ told_running k n
-done_told z = rw z refl
 
 -- ---- the rules
 
