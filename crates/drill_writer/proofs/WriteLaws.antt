@@ -1,6 +1,5 @@
 -- What the rules and the answer of a writing settle, and where the file stands in the room.
 use mathlib.Core.Path.{◌≡◌, refl, sym, ap, subst, ◌∙◌}
-use mathlib.Core.Logic.{◌≢◌}
 use mathlib.Core.List.{List, ◌++◌}
 use Prim.Native.Nat.{ℕ, zero, suc, ◌+◌, ◌≤◌, ◌<◌}
 use native.Mathlib.Omega.{arith}
@@ -44,10 +43,6 @@ answer_is (Bytes m) zero n l e = ap Bytes (ap (λ (x : WriteTold). x.bytes) e)
 answer_is (Bytes m) (suc k) n l e = absurd (omega (arith, ap (λ (x : WriteTold). x.refusal) e))
 answer_is (Refused j) zero n l e = absurd (omega (arith, ap (λ (x : WriteTold). x.bytes) e))
 answer_is (Refused j) (suc k) n l e = ap Refused (ap (λ (x : WriteTold). x.refusal) e)
-
-pub refusal_told : (k n : ℕ) → k ≢ 0 → written_told (Refused k) ≡ told_number k n
-refusal_told zero n h = absurd (h refl)
-refusal_told (suc k) n h = refl
 
 pub done_told : {k m n : ℕ} → k ≡ 0 → m ≡ n → written_told (Bytes m) ≡ told_number k n
 done_told z e = rw (z, e) refl
