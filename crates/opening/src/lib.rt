@@ -1,4 +1,6 @@
 // Opening: a drill file opened on tables of its size, or refused by its number before anything but its line is written.
+#![tactic(auto)]
+
 ghost use Rattle.std.specs.Prelude.{◌≡◌, ◌≤◌, length, take};
 ghost use Rattle.tables.specs.Lent.{tables, Fits};
 ghost use Rattle.lines.specs.Lines.{room};
