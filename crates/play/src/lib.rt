@@ -1,4 +1,6 @@
 // Playing: the actions of a drill, read through one reader that moves.
+#![tactic(auto)]
+
 ghost use Rattle.tables.specs.Lent.{tables};
 ghost use Rattle.drill.specs.Promises.{Playing, Plays};
 

@@ -1,4 +1,0 @@
-pub mod LentAgain
-pub mod Lending
-pub mod Sharing
-pub mod TenTables
