@@ -6,4 +6,4 @@ use Rattle.input.specs.declared.Got.TheVariants.{Bytes, Failed}
 -- The bytes that were read stand in the buffer: there are no more than it has room for. Of a read that failed nothing is promised.
 abbrev pub Within : List ℕ → Got → Type 0
 Within buffer (Bytes n) = n ≤ length buffer
-Within buffer Failed = Unit {0}
+Within buffer (Failed why) = Unit {0}

@@ -1,6 +1,10 @@
 // The question that a program's words ask about a drill: what the hunter reaches, the cost along listed cells, or the cost through a move.
+#![tactic(auto)]
+
 ghost use Rattle.std.specs.Prelude.{◌+◌, ◌≤◌, ◌<◌};
 ghost use Rattle.question.specs.Hears.{Hears};
+
+use std::env::{Env, FillError};
 
 // One cell more than the largest plan has: a list that is longer is refused as one of this length is.
 pub const ROOM: usize = 4097;
@@ -71,36 +75,47 @@ fn number_in(word: &[u8]) -> usize
     number
 }
 
+// How many words the program is given, its own name among them.
+fn word_count<E: Env>(env: &E) -> usize {
+    for i in 0..usize::MAX {
+        let mut first = [0u8; 1];
+        if let Err(FillError::NotPresent) = env.arg(i, &mut first) {
+            return i;
+        }
+    }
+    usize::MAX
+}
+
 // Is the argument of this number this word? One that is too long for the buffer is read as an empty one: it is no word of a question.
-fn says(i: usize, word: &[u8]) -> bool {
-    let mut given = io::buffer();
-    let length = os::arg(i, &mut given);
+fn says<E: Env>(env: &E, i: usize, word: &[u8]) -> bool {
+    let mut given = [0u8; 4096];
+    let length = env.arg(i, &mut given).unwrap_or(0);
     is_word(&given[..length], word)
 }
 
 // The number that an argument tells.
-fn number_told(i: usize) -> usize
+fn number_told<E: Env>(env: &E, i: usize) -> usize
     ensures { result ≤ 65536 }
 {
-    let mut given = io::buffer();
-    let length = os::arg(i, &mut given);
+    let mut given = [0u8; 4096];
+    let length = env.arg(i, &mut given).unwrap_or(0);
     number_in(&given[..length])
 }
 
 // The direction that an argument names.
-fn direction_told(i: usize) -> usize
+fn direction_told<E: Env>(env: &E, i: usize) -> usize
     ensures { result ≤ 4 }
 {
-    if says(i, b"north") {
+    if says(env, i, b"north") {
         return 0;
     }
-    if says(i, b"east") {
+    if says(env, i, b"east") {
         return 1;
     }
-    if says(i, b"south") {
+    if says(env, i, b"south") {
         return 2;
     }
-    if says(i, b"west") {
+    if says(env, i, b"west") {
         return 3;
     }
     NO_DIRECTION
@@ -116,12 +131,12 @@ fn keep(cell: usize, i: usize, cells: &mut [u16])
 }
 
 // The question that lists the cells of so many words from the third on.
-fn hear_cells(words: usize, cells: &mut [u16]) -> Heard
+fn hear_cells<E: Env>(env: &E, words: usize, cells: &mut [u16]) -> Heard
     requires { words + 3 < 18446744073709551616 }
     ensures { Hears result }
 {
     for i in 0..words {
-        let cell = number_told(3 + i);
+        let cell = number_told(env, 3 + i);
         if cell == NO_NUMBER {
             return Heard::Nothing;
         }
@@ -131,30 +146,30 @@ fn hear_cells(words: usize, cells: &mut [u16]) -> Heard
 }
 
 // The question that the words behind the file's name ask; the cells of a list are kept.
-pub fn hear(cells: &mut [u16]) -> Heard
+pub fn hear<E: Env>(env: &E, cells: &mut [u16]) -> Heard
     ensures { Hears result }
 {
-    let count = os::arg_count();
+    let count = word_count(env);
     if count < 2 {
         return Heard::Nothing;
     }
     if count == 2 {
         return Heard::Asked(Question::Reached);
     }
-    if says(2, b"along") {
-        return hear_cells(count - 3, cells);
+    if says(env, 2, b"along") {
+        return hear_cells(env, count - 3, cells);
     }
     if count != 5 {
         return Heard::Nothing;
     }
-    if !says(2, b"through") {
+    if !says(env, 2, b"through") {
         return Heard::Nothing;
     }
-    let cell = number_told(3);
+    let cell = number_told(env, 3);
     if cell == NO_NUMBER {
         return Heard::Nothing;
     }
-    let direction = direction_told(4);
+    let direction = direction_told(env, 4);
     if direction == NO_DIRECTION {
         return Heard::Nothing;
     }

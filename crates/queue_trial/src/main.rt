@@ -1,8 +1,12 @@
 // Exercises the queue by pseudo-random operations at sizes from 1 to 4,096 cells and two widths of the plan, and prints a digest of what it answers.
 // The expected output comes from compare/queue_trial.py, which knows nothing of heaps.
+#![tactic(auto)]
+
 ghost use Rattle.std.specs.Prelude.{◌≡◌, ◌+◌, ◌<◌, ◌≤◌, length};
 ghost use Rattle.queue.specs.Queue.{most, Heap};
 ghost use Rattle.queue_trial.specs.Trial.{Sized, Queues, Empty};
+
+use std::io;
 
 // The next number of the generator.
 fn next(x: usize) -> usize {
@@ -126,6 +130,7 @@ fn drain(
 
 // Drains what is left and prints the trial's line.
 fn finish(
+    rt: &impl Print,
     width: usize,
     k1: &mut [u32],
     k2: &mut [u32],
@@ -134,21 +139,12 @@ fn finish(
     count: usize,
     turns: usize,
     seen: usize,
-)
+) -> io::Result<()>
     requires { Heap width (length list.old) count k1.old k2.old place.old list.old }
 {
     let digest = drain(width, k1, k2, place, list, count, seen);
-    io::write_all(1, b"width ");
-    io::print_decimal(1, width as u64);
-    io::write_all(1, b", size ");
-    io::print_decimal(1, list.len() as u64);
-    io::write_all(1, b": ");
-    io::print_decimal(1, turns as u64);
-    io::write_all(1, b" operations, ");
-    io::print_decimal(1, count as u64);
-    io::write_all(1, b" left, digest ");
-    io::print_decimal(1, digest as u64);
-    io::write_all(1, b"\n");
+    let size = list.len();
+    println!(rt; "width {width}, size {size}: {turns} operations, {count} left, digest {digest}")
 }
 
 // The cell of a turn: first each in its turn, so that the queue is full once, and then as the number x says.
@@ -163,7 +159,14 @@ fn turn_cell(size: usize, turn: usize, x: usize) -> usize
 }
 
 // Operates on the empty queue, and finishes.
-fn exercise(width: usize, k1: &mut [u32], k2: &mut [u32], place: &mut [u16], list: &mut [u16])
+fn exercise(
+    rt: &impl Print,
+    width: usize,
+    k1: &mut [u32],
+    k2: &mut [u32],
+    place: &mut [u16],
+    list: &mut [u16],
+) -> io::Result<()>
     requires heap { Heap width (length list.old) 0 k1.old k2.old place.old list.old }
     requires list_nonzero { 0 < length list.old }
 {
@@ -181,7 +184,7 @@ fn exercise(width: usize, k1: &mut [u32], k2: &mut [u32], place: &mut [u16], lis
         digest = fold_queue(k1, k2, place, list, count, cell, digest);
         turn += 1;
     }
-    finish(width, k1, k2, place, list, count, turns, digest);
+    finish(rt, width, k1, k2, place, list, count, turns, digest)
 }
 
 // Gives the tables the values of an empty queue.
@@ -201,36 +204,45 @@ fn clear(k1: &mut [u32], k2: &mut [u32], place: &mut [u16], list: &mut [u16])
 }
 
 // Exercises a queue that is as long as its tables.
-fn trial(width: usize, k1: &mut [u32], k2: &mut [u32], place: &mut [u16], list: &mut [u16])
+fn trial(
+    rt: &impl Print,
+    width: usize,
+    k1: &mut [u32],
+    k2: &mut [u32],
+    place: &mut [u16],
+    list: &mut [u16],
+) -> io::Result<()>
     requires width_nonzero { 0 < width }
     requires sized { Sized (length list.old) k1.old k2.old place.old list.old }
     requires list_len_bound { length list.old ≤ most }
     requires list_nonzero { 0 < length list.old }
 {
     clear(k1, k2, place, list);
-    exercise(width, k1, k2, place, list);
+    exercise(rt, width, k1, k2, place, list)
 }
 
 // Exercises a queue of `size` cells in the first part of the tables.
 fn sized_trial(
+    rt: &impl Print,
     width: usize,
     k1: &mut [u32],
     k2: &mut [u32],
     place: &mut [u16],
     list: &mut [u16],
     size: usize,
-)
+) -> io::Result<()>
     requires width_nonzero { 0 < width }
     requires sized { Sized most k1.old k2.old place.old list.old }
     requires size_nonzero { (0 < size) × (size ≤ most) }
 {
     trial(
+        rt,
         width,
         &mut k1[0..size],
         &mut k2[0..size],
         &mut place[0..size],
         &mut list[0..size],
-    );
+    )
 }
 
 // The sizes: small ones, both sides of a full level of the heap, and the largest plan.
@@ -254,22 +266,29 @@ fn size_of(i: usize) -> usize
 }
 
 // One trial of each size, all in a plan of the greatest width.
-fn trials(k1: &mut [u32], k2: &mut [u32], place: &mut [u16], list: &mut [u16])
+fn trials(
+    rt: &impl Print,
+    k1: &mut [u32],
+    k2: &mut [u32],
+    place: &mut [u16],
+    list: &mut [u16],
+) -> io::Result<()>
     requires { Sized most k1.old k2.old place.old list.old }
 {
     let mut i = 0;
     while i < 12 {
-        sized_trial(64, k1, k2, place, list, size_of(i));
+        sized_trial(rt, 64, k1, k2, place, list, size_of(i))?;
         i += 1;
     }
+    Ok(())
 }
 
 // Owns the tables. They are full of zeros, so each trial clears its part first. The last is in a plan of another width.
-fn main() {
+fn main(rt: HostRuntime) -> io::Result<()> {
     let mut k1 = [0u32; 4096];
     let mut k2 = [0u32; 4096];
     let mut place = [0u16; 4096];
     let mut list = [0u16; 4096];
-    trials(&mut k1, &mut k2, &mut place, &mut list);
-    sized_trial(7, &mut k1, &mut k2, &mut place, &mut list, 1000);
+    trials(&rt, &mut k1, &mut k2, &mut place, &mut list)?;
+    sized_trial(&rt, 7, &mut k1, &mut k2, &mut place, &mut list, 1000)
 }
