@@ -1,29 +1,35 @@
 // Why this way, why none: answers a question about the plan, the hunter and the target that a drill file opens with.
 // What is told is what the calls of `reach`, `along` and `through` promise; that the lines say it is tested, not proved.
+#![tactic(auto)]
+
 ghost use Rattle.std.specs.Prelude.{◌+◌, ◌≤◌, length};
 
 use along;
 use along::Running;
 use drill_file;
 use drill_file::Trailer;
+use failure;
 use input;
 use input::Got;
-use libc::{STDERR_FILENO, STDOUT_FILENO};
 use question;
 use question::{Heard, Question};
 use reach;
 use reach::Reaching;
+use std::env::Env;
+use std::io::{Error, Read};
+use std::rt::Files;
+use std::{fs, str};
 use text;
 use through;
 use through::Passing;
 
 // Prints a text. If that fails it is told, and nothing more is to be printed.
-fn print(text: &[u8]) -> bool {
-    if io::write_all(STDOUT_FILENO, text) {
-        return true;
+fn print<R: Print + Eprint>(rt: &R, text: &[u8]) -> bool {
+    if let Err(why) = rt.write_all(text) {
+        failure::tell(rt, "write", why);
+        return false;
     }
-    os::fail(b"write");
-    false
+    true
 }
 
 // Puts a number between two words.
@@ -37,33 +43,33 @@ fn put_number(before: &[u8], n: u64, behind: &[u8], text: &mut [u8], at: usize) 
 }
 
 // Prints a line: a word, a number, and what ends the line.
-fn print_number(word: &[u8], n: u64, end: &[u8]) -> bool
+fn print_number<R: Print + Eprint>(rt: &R, word: &[u8], n: u64, end: &[u8]) -> bool
     requires { (length word.now ≤ 8) × (length end.now ≤ 8) }
 {
     let mut line = [0u8; 64];
     let used = put_number(word, n, end, &mut line, 0);
-    print(&line[0..used])
+    print(rt, &line[0..used])
 }
 
 // Prints a line of a word and two numbers.
-fn print_pair(word: &[u8], a: u64, b: u64) -> bool
+fn print_pair<R: Print + Eprint>(rt: &R, word: &[u8], a: u64, b: u64) -> bool
     requires { length word.now ≤ 8 }
 {
     let mut line = [0u8; 64];
     let half = put_number(word, a, b" ", &mut line, 0);
     let used = put_number(b"", b, b"\n", &mut line, half);
-    print(&line[0..used])
+    print(rt, &line[0..used])
 }
 
 // Prints the line of a refusal.
-fn print_refusal(number: u8) {
-    print_number(b"refused ", number as u64, b"\n");
+fn print_refusal<R: Print + Eprint>(rt: &R, number: u8) {
+    print_number(rt, b"refused ", number as u64, b"\n");
 }
 
 // Prints a line for each row.
-fn print_rows(rows: &[u64]) -> bool {
+fn print_rows<R: Print + Eprint>(rt: &R, rows: &[u64]) -> bool {
     for row in 0..rows.len() {
-        if !print_pair(b"row ", row as u64, rows[row]) {
+        if !print_pair(rt, b"row ", row as u64, rows[row]) {
             return false;
         }
     }
@@ -71,80 +77,85 @@ fn print_rows(rows: &[u64]) -> bool {
 }
 
 // Prints the line of a shut move, told as 4 × cell + direction.
-fn print_shut(told: u16) -> bool {
+fn print_shut<R: Print + Eprint>(rt: &R, told: u16) -> bool {
     let cell = (told / 4) as u64;
     match told % 4 {
-        0 => print_number(b"shut ", cell, b" north\n"),
-        1 => print_number(b"shut ", cell, b" east\n"),
-        2 => print_number(b"shut ", cell, b" south\n"),
-        _ => print_number(b"shut ", cell, b" west\n"),
+        0 => print_number(rt, b"shut ", cell, b" north\n"),
+        1 => print_number(rt, b"shut ", cell, b" east\n"),
+        2 => print_number(rt, b"shut ", cell, b" south\n"),
+        _ => print_number(rt, b"shut ", cell, b" west\n"),
     }
 }
 
 // Prints a line for each shut move.
-fn print_moves(moves: &[u16]) {
+fn print_moves<R: Print + Eprint>(rt: &R, moves: &[u16]) {
     for i in 0..moves.len() {
-        if !print_shut(moves[i]) {
+        if !print_shut(rt, moves[i]) {
             return;
         }
     }
 }
 
 // Prints a line for each of so many listed cells and its cost.
-fn print_costs(count: usize, cells: &[u16], costs: &[u32])
+fn print_costs<R: Print + Eprint>(rt: &R, count: usize, cells: &[u16], costs: &[u32])
     requires { (count ≤ length cells.now) × (count ≤ length costs.now) }
 {
     for i in 0..count {
-        if !print_pair(b"cost ", cells[i] as u64, costs[i] as u64) {
+        if !print_pair(rt, b"cost ", cells[i] as u64, costs[i] as u64) {
             return;
         }
     }
 }
 
 // Prints what the hunter reaches: how many cells, each row, and each shut move that leads out.
-fn print_reached(cells: usize, rows: &[u64], moves: &[u16]) {
-    if !print_number(b"reached ", cells as u64, b"\n") {
+fn print_reached<R: Print + Eprint>(rt: &R, cells: usize, rows: &[u64], moves: &[u16]) {
+    if !print_number(rt, b"reached ", cells as u64, b"\n") {
         return;
     }
-    if !print_rows(rows) {
+    if !print_rows(rt, rows) {
         return;
     }
-    print_moves(moves);
+    print_moves(rt, moves);
 }
 
 // Tells what the hunter reaches, in rooms that are large enough for every plan.
-fn tell_reached(t: Trailer, plan: &[u8]) {
+fn tell_reached<R: Print + Eprint>(rt: &R, t: Trailer, plan: &[u8]) {
     let mut rows = [0u64; 64];
     let mut moves = [0u16; 16384];
     let height = t.height;
     let answer = reach::reached(t.width, height, t.hunter, plan, &mut rows, &mut moves);
     match answer {
-        Reaching::Reaches(cells, outs) => print_reached(cells, &rows[0..height], &moves[0..outs]),
-        Reaching::Refused(number) => print_refusal(number),
+        Reaching::Reaches(cells, outs) => print_reached(
+            rt,
+            cells,
+            &rows[0..height],
+            &moves[0..outs],
+        ),
+        Reaching::Refused(number) => print_refusal(rt, number),
     }
 }
 
 // Tells the running cost along listed cells.
-fn tell_along(t: Trailer, plan: &[u8], cells: &[u16]) {
+fn tell_along<R: Print + Eprint>(rt: &R, t: Trailer, plan: &[u8], cells: &[u16]) {
     let mut costs = [0u32; question::ROOM];
     let answer = along::along(t.width, t.height, plan, cells, &mut costs);
     match answer {
-        Running::Costs(count) => print_costs(count, cells, &costs),
-        Running::Refused(number) => print_refusal(number),
+        Running::Costs(count) => print_costs(rt, count, cells, &costs),
+        Running::Refused(number) => print_refusal(rt, number),
     }
 }
 
 // Tells the least cost through a move.
-fn tell_through(t: Trailer, plan: &[u8], cell: usize, direction: usize) {
+fn tell_through<R: Print + Eprint>(rt: &R, t: Trailer, plan: &[u8], cell: usize, direction: usize) {
     let answer = through::through(t.width, t.height, t.hunter, t.target, plan, cell, direction);
     match answer {
         Passing::Cost(cost) => {
-            print_number(b"through ", cost as u64, b"\n");
+            print_number(rt, b"through ", cost as u64, b"\n");
         }
         Passing::NoWalk => {
-            print(b"no walk\n");
+            print(rt, b"no walk\n");
         }
-        Passing::Refused(number) => print_refusal(number),
+        Passing::Refused(number) => print_refusal(rt, number),
     }
 }
 
@@ -156,73 +167,90 @@ fn least(a: usize, b: usize) -> usize
 }
 
 // Answers a question about the plan, the hunter and the target of a drill.
-fn answer(t: Trailer, plan: &[u8], question: Question, cells: &[u16]) {
+fn answer<R: Print + Eprint>(rt: &R, t: Trailer, plan: &[u8], question: Question, cells: &[u16]) {
     match question {
-        Question::Reached => tell_reached(t, plan),
+        Question::Reached => tell_reached(rt, t, plan),
         Question::Along(count) => {
             // A list that is longer than its room is too long for every plan, with the cells that were kept too.
             let kept = least(count, cells.len());
-            tell_along(t, plan, &cells[0..kept]);
+            tell_along(rt, t, plan, &cells[0..kept]);
         }
-        Question::Through(cell, direction) => tell_through(t, plan, cell, direction),
+        Question::Through(cell, direction) => tell_through(rt, t, plan, cell, direction),
     }
 }
 
 // Answers a question about a drill file, unless the file is badly formed.
-fn explain(file: &[u8], question: Question, cells: &[u16]) {
+fn explain<R: Print + Eprint>(rt: &R, file: &[u8], question: Question, cells: &[u16]) {
     let t = drill_file::trailer_in(file);
     let form = drill_file::form(file, t);
     if form != 0 {
-        print_refusal(form);
+        print_refusal(rt, form);
         return;
     }
     let plan = t.offset;
-    answer(t, &file[0..plan], question, cells);
+    answer(rt, t, &file[0..plan], question, cells);
 }
 
 // Reads a drill file, of which 65,537 bytes tell that it is too long, and answers.
-fn explain_input(fd: i32, name: &[u8], question: Question, cells: &[u16]) {
+fn explain_input<R: Print + Eprint, I: Read>(
+    rt: &R,
+    reader: &mut I,
+    name: &str,
+    question: Question,
+    cells: &[u16],
+) {
     let mut input = [0u8; 65537];
-    let read = input::read_whole(fd, &mut input);
-    let Got::Bytes(got) = read else {
-        os::fail(name);
-        return;
+    let got = match input::read_whole(reader, &mut input) {
+        Got::Bytes(got) => got,
+        Got::Failed(why) => {
+            failure::tell(rt, name, why);
+            return;
+        }
     };
-    explain(&input[0..got], question, cells);
+    explain(rt, &input[0..got], question, cells);
 }
 
 // Answers a question about the drill file of that name.
-fn explain_named(name: &[u8], question: Question, cells: &[u16]) {
-    let fd = os::open_read(name);
-    if fd < 0 {
-        os::fail(name);
-        return;
+fn explain_named<R: Print + Eprint + Files>(rt: &R, name: &str, question: Question, cells: &[u16]) {
+    match fs::open(rt, name) {
+        Ok(mut file) => explain_input(rt, &mut file, name, question, cells),
+        Err(why) => failure::tell(rt, name, why),
     }
-    explain_input(fd, name, question, cells);
-    libc::close(fd);
+}
+
+// Answers a question about the drill file that the word names. The names that std takes are text.
+fn explain_word<R: Print + Eprint + Files>(rt: &R, word: &[u8], question: Question, cells: &[u16]) {
+    match str::from_utf8(word) {
+        Ok(name) => explain_named(rt, name, question, cells),
+        Err(_) => failure::tell(
+            rt,
+            "the file's name",
+            Error::from_raw_os_error(failure::NO_TEXT),
+        ),
+    }
 }
 
 // Answers a question about the drill file that the first word names.
-fn explain_first(question: Question, cells: &[u16]) {
-    let mut name = io::buffer();
-    let length = os::arg(1, &mut name);
-    if os::errno() != 0 {
-        os::fail(b"the file's name");
-        return;
+fn explain_first<R: Print + Eprint + Files + Env>(rt: &R, question: Question, cells: &[u16]) {
+    let mut word = [0u8; 4096];
+    match rt.arg(1, &mut word) {
+        Ok(length) => explain_word(rt, &word[..length], question, cells),
+        Err(_) => failure::tell(
+            rt,
+            "the file's name",
+            Error::from_raw_os_error(failure::NAME_TOO_LONG),
+        ),
     }
-    explain_named(&name[..length], question, cells);
 }
 
 // Words that are no question are told on standard error, and then nothing is answered.
-fn main() {
+fn main(rt: HostRuntime) {
     let mut cells = [0u16; question::ROOM];
-    let heard = question::hear(&mut cells);
-    match heard {
-        Heard::Asked(question) => explain_first(question, &cells),
+    match question::hear(&rt, &mut cells) {
+        Heard::Asked(question) => explain_first(&rt, question, &cells),
         Heard::Nothing => {
-            io::write_all(
-                STDERR_FILENO,
-                b"usage: explain DRILL [along CELL.. | through CELL north|east|south|west]\n",
+            let _ = eprintln!(rt;
+                "usage: explain DRILL [along CELL.. | through CELL north|east|south|west]"
             );
         }
     }

@@ -1,33 +1,27 @@
 // The library in a few lines: three rooms in a row, the way from the first to the last, and none once the door to the last is shut.
+#![tactic(auto)]
+
 use answer::Answer;
 use change;
 use plan::SHUT;
 use search;
 use session;
+use std::io;
 use tables::Session;
 
-// Prints a word and a number.
-fn say_number(word: &[u8], n: u64) {
-    io::write_all(1, word);
-    io::print_decimal(1, n);
-}
-
 // Prints an answer on a line.
-fn say(answer: Answer) {
+fn say(rt: &impl Print, answer: Answer) -> io::Result<()> {
     match answer {
-        Answer::Caught(cell) => say_number(b"caught at ", cell as u64),
-        Answer::NoWay(steps) => say_number(b"none steps ", steps as u64),
-        Answer::Way(cost, steps, _) => {
-            say_number(b"way ", cost as u64);
-            say_number(b" steps ", steps as u64);
-        }
-        Answer::Refused(number) => say_number(b"refused ", number as u64),
+        Answer::Caught(cell) => println!(rt; "caught at {cell}"),
+        Answer::NoWay(steps) => println!(rt; "none steps {steps}"),
+        Answer::Way(cost, steps, _) => println!(rt; "way {cost} steps {steps}"),
+        Answer::Refused(number) => println!(rt; "refused {number}"),
     }
-    io::write_all(1, b"\n");
 }
 
 // Searches, prints the answer, and returns the record for the next call.
 fn seek(
+    rt: &impl Print,
     s: Session,
     plan: &[u8],
     g: &mut [u32],
@@ -38,16 +32,16 @@ fn seek(
     place: &mut [u16],
     list: &mut [u16],
     way: &mut [u16],
-) -> Session {
+) -> io::Result<Session> {
     let found = search::search(s, plan, g, rhs, parent, k1, k2, place, list, way);
     let answer = found.answer;
-    say(answer);
-    found.session
+    say(rt, answer)?;
+    Ok(found.session)
 }
 
 // Opens, searches, shuts the move from room 1 to the east (1), and searches again. The plan has four bytes a room, from north to west;
 // what the tables hold at first does not matter, since open fills them.
-fn main() {
+fn main(rt: HostRuntime) -> io::Result<()> {
     let mut plan = [SHUT, 1, SHUT, SHUT, SHUT, 1, SHUT, 1, SHUT, SHUT, SHUT, 1];
     let mut g = [0u32; 3];
     let mut rhs = [0u32; 3];
@@ -72,6 +66,7 @@ fn main() {
         &mut list,
     );
     let first = seek(
+        &rt,
         opened.session,
         &plan,
         &mut g,
@@ -82,7 +77,7 @@ fn main() {
         &mut place,
         &mut list,
         &mut way,
-    );
+    )?;
     let shut = change::change_move(
         first,
         &mut plan,
@@ -98,6 +93,7 @@ fn main() {
         SHUT,
     );
     seek(
+        &rt,
         shut.session,
         &plan,
         &mut g,
@@ -108,5 +104,6 @@ fn main() {
         &mut place,
         &mut list,
         &mut way,
-    );
+    )?;
+    Ok(())
 }

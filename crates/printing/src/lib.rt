@@ -1,4 +1,6 @@
 // Printing: the one function that writes, and the loop that plays what is left over of a file and prints it, piece after piece.
+#![tactic(auto)]
+
 ghost use Rattle.std.specs.Prelude.{◌≡◌, ◌+◌, ◌≤◌, length, take};
 ghost use Rattle.tables.specs.Lent.{given};
 ghost use Rattle.drill.specs.Output.{output};
@@ -6,7 +8,7 @@ ghost use Rattle.printing.specs.Promises.{counted, Piece, Printing, Moves, Writt
 
 use drill::Played;
 use drill_file;
-use libc::STDOUT_FILENO;
+use failure;
 use play;
 use tables::Session;
 
@@ -23,7 +25,8 @@ const FAILED: usize = 18446744073709551615;
 
 // The one function that writes to standard output, and the one that moves the count on. The first `used` bytes of the text are the next piece of the output of the file, the first `got` bytes of the input.
 // What is then left to play: nothing once a write has failed, which is told.
-fn write_piece(
+fn write_piece<R: Print + Eprint>(
+    rt: &R,
     input: &[u8],
     got: usize,
     text: &[u8],
@@ -34,25 +37,33 @@ fn write_piece(
     requires { Piece input.now got text.now used count.old }
     ensures { Moves result left 0 (counted count.old + used) count.new }
 {
-    if io::write_all(STDOUT_FILENO, &text[0..used]) {
-        count[0] += used;
-        return left;
+    if let Err(why) = rt.write_all(&text[0..used]) {
+        failure::tell(rt, "write", why);
+        count[0] = FAILED;
+        return 0;
     }
-    os::fail(b"write");
-    count[0] = FAILED;
-    0
+    count[0] += used;
+    left
 }
 
 // Prints the line of a file refused, or the lines of the actions played. How many actions are then left to play?
-pub fn print(input: &[u8], got: usize, text: &[u8], played: Played, count: &mut [usize]) -> usize
+pub fn print<R: Print + Eprint>(
+    rt: &R,
+    input: &[u8],
+    got: usize,
+    text: &[u8],
+    played: Played,
+    count: &mut [usize],
+) -> usize
     requires { Piece input.now got text.now played.used count.old }
     ensures { Moves result played.left 0 (counted count.old + played.used) count.new }
 {
-    write_piece(input, got, text, played.used, played.left, count)
+    write_piece(rt, input, got, text, played.used, played.left, count)
 }
 
 // Plays the actions left over of an opened file and prints each piece. One reader is made, and it goes through them all.
-pub fn play_all(
+pub fn play_all<R: Print + Eprint>(
+    rt: &R,
     input: &[u8],
     got: usize,
     file: &[u8],
@@ -81,7 +92,7 @@ pub fn play_all(
         let played = play::play(
             r, left, session, plan, g, rhs, parent, k1, k2, place, list, way, text,
         );
-        left = print(input, got, text, played, count);
+        left = print(rt, input, got, text, played, count);
         r = drill_file::moved_to(r, played.at);
         session = played.session;
     }

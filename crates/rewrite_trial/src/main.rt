@@ -1,13 +1,15 @@
 // A trial of the writer: reads a drill file, writes it again from the parts that the reader finds in it, and prints what was written, or the number by which the file is refused.
+#![tactic(auto)]
+
 ghost use Rattle.std.specs.Prelude.{◌≤◌, length};
 ghost use Rattle.rewrite_trial.specs.Again.{Again};
 
 use drill_file;
 use drill_writer;
 use drill_writer::Written;
+use failure;
 use input;
 use input::Got;
-use libc::{STDIN_FILENO, STDOUT_FILENO};
 use lines;
 
 // Writes a file again from its own parts.
@@ -34,39 +36,41 @@ fn rewrite(file: &[u8], room: &mut [u8]) -> Written
 }
 
 // Prints a text, and tells if that failed.
-fn print(text: &[u8]) {
-    if !io::write_all(STDOUT_FILENO, text) {
-        os::fail(b"write");
+fn print<R: Print + Eprint>(rt: &R, text: &[u8]) {
+    if let Err(why) = rt.write_all(text) {
+        failure::tell(rt, "write", why);
     }
 }
 
 // Prints the line of a refusal.
-fn print_refusal(number: u8) {
-    let mut line = io::buffer();
+fn print_refusal<R: Print + Eprint>(rt: &R, number: u8) {
+    let mut line = [0u8; 4096];
     let end = lines::put_refusal(number, &mut line, 0);
-    print(&line[0..end]);
+    print(rt, &line[0..end]);
 }
 
 // Writes the file, the first `got` bytes of the input, again and prints what was written.
-fn rewrite_input(input: &[u8], got: usize, room: &mut [u8])
+fn rewrite_input<R: Print + Eprint>(rt: &R, input: &[u8], got: usize, room: &mut [u8])
     requires got_in_bounds { got ≤ length input.now }
     requires input_in_bounds { length input.now ≤ length room.old }
 {
     let written = rewrite(&input[0..got], room);
     match written {
-        Written::Bytes(bytes) => print(&room[0..bytes]),
-        Written::Refused(number) => print_refusal(number),
+        Written::Bytes(bytes) => print(rt, &room[0..bytes]),
+        Written::Refused(number) => print_refusal(rt, number),
     }
 }
 
 // Reads the file, of which 65,537 bytes tell that it is too long.
-fn main() {
+fn main(rt: HostRuntime) {
     let mut input = [0u8; 65537];
     let mut room = [0u8; 65537];
-    let read = input::read_whole(STDIN_FILENO, &mut input);
-    let Got::Bytes(got) = read else {
-        os::fail(b"standard input");
-        return;
+    let got = match input::read_whole(&mut rt.stdin(), &mut input) {
+        Got::Bytes(got) => got,
+        Got::Failed(why) => {
+            failure::tell(&rt, "standard input", why);
+            return;
+        }
     };
-    rewrite_input(&input, got, &mut room);
+    rewrite_input(&rt, &input, got, &mut room);
 }

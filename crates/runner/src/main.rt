@@ -1,4 +1,6 @@
 // The drill runner: reads one drill file and prints a line for each search. What it hands to each write is the next piece of the output of what it read; only that the bytes cross is outside.
+#![tactic(auto)]
+
 ghost use Rattle.std.specs.Prelude.{◌≡◌, ◌≤◌, length, take};
 ghost use Rattle.tables.specs.Lent.{given};
 ghost use Rattle.drill_file.specs.File.{trailer_in};
@@ -8,17 +10,22 @@ ghost use Rattle.runner.specs.Own.{Own, Running};
 
 use drill_file;
 use drill_file::Trailer;
+use failure;
 use input;
 use input::Got;
-use libc::STDIN_FILENO;
 use opening;
 use plan::SHUT;
 use printing;
 use queue::ABSENT;
+use std::env::{Env, FillError};
+use std::io::{Error, Read};
+use std::rt::Files;
+use std::{fs, str};
 use tables::INFINITE;
 
 // Runs a file, whose trailer is passed along, on tables of its size: prints what begin leaves in the text, then plays and prints what is left over.
-fn run(
+fn run<R: Print + Eprint>(
+    rt: &R,
     input: &[u8],
     got: usize,
     file: &[u8],
@@ -40,11 +47,12 @@ fn run(
     ensures { WrittenTo (length (output file.now)) count.new }
 {
     let begun = opening::begin(file, t, plan, g, rhs, parent, k1, k2, place, list, text);
-    let left = printing::print(input, got, text, begun, count);
+    let left = printing::print(rt, input, got, text, begun, count);
     if left == 0 {
         return;
     }
     printing::play_all(
+        rt,
         input,
         got,
         file,
@@ -66,7 +74,8 @@ fn run(
 }
 
 // Runs the file that was read, on the parts of the tables that its size asks for. Here its trailer is read, and nowhere else.
-fn run_file(
+fn run_file<R: Print + Eprint>(
+    rt: &R,
     input: &[u8],
     got: usize,
     count: &mut [usize],
@@ -91,6 +100,7 @@ fn run_file(
     let n = drill_file::cells_told(t);
     let m = 4 * n;
     run(
+        rt,
         input,
         got,
         file,
@@ -110,12 +120,14 @@ fn run_file(
 }
 
 // Reads a drill file, of which 65,537 bytes tell that it is too long, and runs it.
-fn run_input(fd: i32, name: &[u8]) {
+fn run_input<R: Print + Eprint, I: Read>(rt: &R, reader: &mut I, name: &str) {
     let mut input = [0u8; 65537];
-    let read = input::read_whole(fd, &mut input);
-    let Got::Bytes(got) = read else {
-        os::fail(name);
-        return;
+    let got = match input::read_whole(reader, &mut input) {
+        Got::Bytes(got) => got,
+        Got::Failed(why) => {
+            failure::tell(rt, name, why);
+            return;
+        }
     };
     let mut count = [0usize; 1];
     let mut plan = [SHUT; 16384];
@@ -129,6 +141,7 @@ fn run_input(fd: i32, name: &[u8]) {
     let mut way = [ABSENT; 4096];
     let mut text = [0u8; 65536];
     run_file(
+        rt,
         &input,
         got,
         &mut count,
@@ -146,27 +159,35 @@ fn run_input(fd: i32, name: &[u8]) {
 }
 
 // Runs the file of that name.
-fn run_named(name: &[u8]) {
-    let fd = os::open_read(name);
-    if fd < 0 {
-        os::fail(name);
-        return;
+fn run_named<R: Print + Eprint + Files>(rt: &R, name: &str) {
+    match fs::open(rt, name) {
+        Ok(mut file) => run_input(rt, &mut file, name),
+        Err(why) => failure::tell(rt, name, why),
     }
-    run_input(fd, name);
-    libc::close(fd);
+}
+
+// Runs the file that the word names. The names that std takes are text.
+fn run_word<R: Print + Eprint + Files>(rt: &R, word: &[u8]) {
+    match str::from_utf8(word) {
+        Ok(name) => run_named(rt, name),
+        Err(_) => failure::tell(
+            rt,
+            "the file's name",
+            Error::from_raw_os_error(failure::NO_TEXT),
+        ),
+    }
 }
 
 // The file named by the first argument, or standard input where there is none.
-fn main() {
-    if os::arg_count() < 2 {
-        run_input(STDIN_FILENO, b"standard input");
-        return;
+fn main(rt: HostRuntime) {
+    let mut word = [0u8; 4096];
+    match rt.arg(1, &mut word) {
+        Ok(length) => run_word(&rt, &word[..length]),
+        Err(FillError::NotPresent) => run_input(&rt, &mut rt.stdin(), "standard input"),
+        Err(FillError::TooLong) => failure::tell(
+            &rt,
+            "the file's name",
+            Error::from_raw_os_error(failure::NAME_TOO_LONG),
+        ),
     }
-    let mut name = io::buffer();
-    let length = os::arg(1, &mut name);
-    if os::errno() != 0 {
-        os::fail(b"the file's name");
-        return;
-    }
-    run_named(&name[..length]);
 }
