@@ -2,7 +2,7 @@
 #![tactic(auto)]
 
 ghost use Rattle.std.specs.Prelude.{◌≡◌, ◌+◌, ◌≤◌, length, take};
-ghost use Rattle.tables.specs.Lent.{given};
+ghost use Rattle.tables.specs.Lent.{tables};
 ghost use Rattle.drill.specs.Output.{output};
 ghost use Rattle.printing.specs.Promises.{counted, Piece, Printing, Moves, WrittenTo};
 
@@ -82,7 +82,7 @@ pub fn play_all<R: Print + Eprint>(
     way: &mut [u16],
     text: &mut [u8],
 )
-    requires { Printing input.now got file.now s (given plan g rhs parent k1 k2 place list) way.old start actions text.old count.old }
+    requires { Printing input.now got file.now s (tables plan.old g.old rhs.old parent.old k1.old k2.old place.old list.old) way.old start actions text.old count.old }
     ensures { WrittenTo (length (output file.now)) count.new }
 {
     let mut r = drill_file::reading(file, start);

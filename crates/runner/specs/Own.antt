@@ -1,6 +1,6 @@
 -- "The runner holds one plan of 4,096 cells in arrays of its own", and a text for the lines.
 use Rattle.std.specs.Prelude.{◌≡◌, List, ℕ, ◌*◌, ◌≤◌, length, take}
-use Rattle.tables.specs.Lent.{Lent, Tables}
+use Rattle.tables.specs.Lent.{Tables}
 use Rattle.lines.specs.Lines.{room}
 use Rattle.drill.specs.Promises.{Opening}
 use Rattle.printing.specs.Promises.{counted}
@@ -9,17 +9,17 @@ abbrev pub most_cells : ℕ
 most_cells = 4096
 
 -- Each table has room for every plan, the way list for every way, and the text for every line.
-pub record Own (plan g rhs parent k1 k2 place list way text : Lent) : Type 0 where
-  pub plan_room : length plan.now ≡ 4 * most_cells
-  pub g_room : length g.now ≡ most_cells
-  pub rhs_room : length rhs.now ≡ most_cells
-  pub parent_room : length parent.now ≡ most_cells
-  pub k1_room : length k1.now ≡ most_cells
-  pub k2_room : length k2.now ≡ most_cells
-  pub place_room : length place.now ≡ most_cells
-  pub list_room : length list.now ≡ most_cells
-  pub way_room : length way.now ≡ most_cells
-  pub text_room : room most_cells ≤ length text.now
+pub record Own (plan g rhs parent k1 k2 place list way text : List ℕ) : Type 0 where
+  pub plan_room : length plan ≡ 4 * most_cells
+  pub g_room : length g ≡ most_cells
+  pub rhs_room : length rhs ≡ most_cells
+  pub parent_room : length parent ≡ most_cells
+  pub k1_room : length k1 ≡ most_cells
+  pub k2_room : length k2 ≡ most_cells
+  pub place_room : length place ≡ most_cells
+  pub list_room : length list ≡ most_cells
+  pub way_room : length way ≡ most_cells
+  pub text_room : room most_cells ≤ length text
 
 -- A file can be run: it is the first `got` bytes of what was read, nothing is written yet, the tables have its size, and there is room for every way and every line.
 pub record Running (input : List ℕ) (got : ℕ) (file count : List ℕ) (t : Tables) (way text : List ℕ) : Type 0 where

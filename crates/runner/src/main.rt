@@ -2,7 +2,7 @@
 #![tactic(auto)]
 
 ghost use Rattle.std.specs.Prelude.{◌≡◌, ◌≤◌, length, take};
-ghost use Rattle.tables.specs.Lent.{given};
+ghost use Rattle.tables.specs.Lent.{tables};
 ghost use Rattle.drill_file.specs.File.{trailer_in};
 ghost use Rattle.drill.specs.Output.{output};
 ghost use Rattle.printing.specs.Promises.{counted, WrittenTo};
@@ -43,7 +43,7 @@ fn run<R: Print + Eprint>(
     text: &mut [u8],
 )
     requires t_value { t ≡ trailer_in file.now }
-    requires running { Running input.now got file.now count.old (given plan g rhs parent k1 k2 place list) way.old text.old }
+    requires running { Running input.now got file.now count.old (tables plan.old g.old rhs.old parent.old k1.old k2.old place.old list.old) way.old text.old }
     ensures { WrittenTo (length (output file.now)) count.new }
 {
     let begun = opening::begin(file, t, plan, g, rhs, parent, k1, k2, place, list, text);
@@ -92,7 +92,7 @@ fn run_file<R: Print + Eprint>(
 )
     requires got_in_bounds { got ≤ length input.now }
     requires count_value { counted count.old ≡ 0 }
-    requires own { Own plan g rhs parent k1 k2 place list way text }
+    requires own { Own plan.old g.old rhs.old parent.old k1.old k2.old place.old list.old way.old text.old }
     ensures { WrittenTo (length (output (take got input.now))) count.new }
 {
     let file = printing::file_in(input, got);
