@@ -59,6 +59,12 @@ abbrev pub SoFar : (input : List ℕ) (got : ℕ) (file : List ℕ) → Session 
 SoFar input got file s t way text at left count = ((left ≡ 0) × (counted count ≡ failed)) ⊎ Printing input got file s t way at left text count
 
 module _ {input : List ℕ} {got : ℕ} {file : List ℕ} {s : Session} {t : Tables} {way text : List ℕ} {at left : ℕ} {count : List ℕ} (F : SoFar input got file s t way text at left count) where
+  -- The file and the place, known by other names.
+  pub so_far_named : {file' : List ℕ} {at' : ℕ} → file' ≡ file → at' ≡ at → SoFar input got file' s t way text at' left count
+  so_far_named {at' = at'} e p =
+      subst (λ (f : List ℕ). SoFar input got f s t way text at' left count) (sym e)
+      (subst (λ (k : ℕ). SoFar input got file s t way text k left count) (sym p) F)
+
   -- Actions are left over: no write has failed.
   pub goes_on : 0 < left → Printing input got file s t way at left text count
   goes_on l = ⊎_elim (λ (f : (left ≡ 0) × (counted count ≡ failed)). absurd (omega (arith, l, f.0))) (λ (P : Printing input got file s t way at left text count). P) F
