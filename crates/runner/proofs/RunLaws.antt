@@ -7,7 +7,7 @@ use native.Mathlib.Omega.{arith}
 use lib.ListN.{length, take, drop}
 use lib.Seq.{length-take-le}
 use Rattle.plan.proofs.MoveLaws.{area}
-use Rattle.tables.specs.Lent.{Lent, Tables, tables}
+use Rattle.tables.specs.Lent.{Tables, tables}
 use Rattle.standing.specs.Standing.{stands}
 use Rattle.drill_file.specs.declared.Trailer.{Trailer}
 use Rattle.drill_file.specs.File.{trailer_in, cells_told, cells_in, actions_from}
@@ -33,25 +33,25 @@ pub parts_room : (x : Trailer) {n : ℕ} → n ≡ cells_told x → n ≤ most_c
 parts_room x e = omega (arith, cells_few x)
 
 -- What was read can be run on the parts that it asks for.
-pub running : {plan g rhs parent k1 k2 place list way text : Lent} {input : List ℕ} {got : ℕ} {file : List ℕ} (count : List ℕ) {x : Trailer} {n : ℕ} → got ≤ length input → file ≡ take got input
+pub running : {plan g rhs parent k1 k2 place list way text : List ℕ} {input : List ℕ} {got : ℕ} {file : List ℕ} (count : List ℕ) {x : Trailer} {n : ℕ} → got ≤ length input → file ≡ take got input
     → counted count ≡ 0 → Own plan g rhs parent k1 k2 place list way text → x ≡ trailer_in file → n ≡ cells_told x
     → Running input got file count
-    (tables (part (4 * n) plan.now) (part n g.now) (part n rhs.now) (part n parent.now) (part n k1.now) (part n k2.now) (part n place.now) (part n list.now))
-    way.now text.now
+    (tables (part (4 * n) plan) (part n g) (part n rhs) (part n parent) (part n k1) (part n k2) (part n place) (part n list))
+    way text
 running {plan} {g} {rhs} {parent} {k1} {k2} {place} {list} {file = file} count {x} {n} read is none O trailer told = record {
   read = read;
   part = is;
   unwritten = none;
   opening = record {
     fits = record {
-      plan = part_long plan.now (4 * n) (omega (arith, l, O.plan_room)) ∙ ap (λ k. 4 * k) e;
-      g = part_long g.now n (omega (arith, l, O.g_room)) ∙ e;
-      rhs = part_long rhs.now n (omega (arith, l, O.rhs_room)) ∙ e;
-      parent = part_long parent.now n (omega (arith, l, O.parent_room)) ∙ e;
-      k1 = part_long k1.now n (omega (arith, l, O.k1_room)) ∙ e;
-      k2 = part_long k2.now n (omega (arith, l, O.k2_room)) ∙ e;
-      place = part_long place.now n (omega (arith, l, O.place_room)) ∙ e;
-      list = part_long list.now n (omega (arith, l, O.list_room)) ∙ e;
+      plan = part_long plan (4 * n) (omega (arith, l, O.plan_room)) ∙ ap (λ k. 4 * k) e;
+      g = part_long g n (omega (arith, l, O.g_room)) ∙ e;
+      rhs = part_long rhs n (omega (arith, l, O.rhs_room)) ∙ e;
+      parent = part_long parent n (omega (arith, l, O.parent_room)) ∙ e;
+      k1 = part_long k1 n (omega (arith, l, O.k1_room)) ∙ e;
+      k2 = part_long k2 n (omega (arith, l, O.k2_room)) ∙ e;
+      place = part_long place n (omega (arith, l, O.place_room)) ∙ e;
+      list = part_long list n (omega (arith, l, O.list_room)) ∙ e;
     };
     text_room = omega (arith, O.text_room);
   };

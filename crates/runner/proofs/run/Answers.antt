@@ -1,0 +1,12 @@
+-- The first piece is handed over, then what is left to play: all of the output, or a write fails.
+use Rattle.runner.proofs.RunLaws.{first_read, whole_written, rest_printing}
+use Rattle.runner.proofs.run.Goals as goal
+
+pub print-left-requires : goal.print-left-requires
+print-left-requires g c = first_read c.requires.running c.begin-begun.ensures
+
+pub returns-then-left-eq0 : goal.returns-then-left-eq0
+returns-then-left-eq0 g c = whole_written c.requires.running c.begin-begun.ensures c.print-left.new.count c.print-left.ensures c.if-left-eq0.true
+
+pub play_all-requires-clause-printing : goal.play_all-requires-clause-printing
+play_all-requires-clause-printing g c = rest_printing c.requires.running c.begin-begun.ensures c.print-left.new.count c.print-left.ensures c.if-left-eq0.false
