@@ -1,6 +1,6 @@
 /* Rongdhesi: a planner for a hunter and a moving target on a floor plan of at most 64 by 64 cells.
  *
- * The functions stand in librongdhesi.a, which `rt staticlib rongdhesi` builds for x86-64 Linux. Each of them is
+ * The functions stand in librongdhesi.a, which `rt lib` in crates/rongdhesi builds for x86-64 Linux. Each of them is
  * proved to end safely for every number given and every content of the lent tables, and to answer as the
  * library's own call (crates/rongdhesi, src/lib.rt). A caller owes what no proof can see: every pointer points
  * to as many entries as the length after it says, aligned for their type, and no two tables overlap.
