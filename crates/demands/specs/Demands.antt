@@ -9,7 +9,7 @@ use Rattle.tables.specs.Lent.{Tables, cells, graph, session, core}
 use Rattle.tables.specs.Sound.{Sound}
 use Rattle.tables.specs.Told.{none_leads as none, refusal, Told, told_refusal, told_caught, told_none, told_way}
 use Rattle.session.specs.declared.Reply.{Reply}
-use Rattle.session.specs.Refusals.{told_by as toldByCall, PlaceRules, OpenRules}
+use Rattle.session.specs.Refusals.{told_by as told_by_call, PlaceRules, OpenRules}
 use Rattle.session.specs.Promises.{nothing, Places, Opens}
 use Rattle.change.specs.Refusals.{ChangeRules}
 use Rattle.change.specs.Promise.{Changes}
@@ -21,11 +21,11 @@ use Rattle.search.specs.Promise.{SearchRules, outcome, written, Searches}
 -- "Faulty input is refused by number, in the fixed order, and such a refusal changes nothing; no caller has to check first": where k is the number of the first
 -- rule broken, in the table's order, the call tells k and record, tables and way list are as they came (open: a record of zeros).
 pub record RefusesByNumber : Type 0 where
-  pub place : {s placed : Session} {cell k : ℕ} {r : Reply} → Places s placed cell r → PlaceRules s cell k → k ≢ 0 → (toldByCall r.answer ≡ told_refusal k) × (r.session ≡ s)
+  pub place : {s placed : Session} {cell k : ℕ} {r : Reply} → Places s placed cell r → PlaceRules s cell k → k ≢ 0 → (told_by_call r.answer ≡ told_refusal k) × (r.session ≡ s)
   pub opening : {width height hunter target k : ℕ} {t t' : Tables} {r : Reply} → Opens width height hunter target t r t' → OpenRules width height hunter target t k → k ≢ 0
-      → (toldByCall r.answer ≡ told_refusal k) × (r.session ≡ nothing) × (t' ≡ t)
+      → (told_by_call r.answer ≡ told_refusal k) × (r.session ≡ nothing) × (t' ≡ t)
   pub change : {s : Session} {t t' : Tables} {u d cost k : ℕ} {r : Reply} → Changes s t u d cost r t' → ChangeRules s t u d cost k → k ≢ 0
-      → (toldByCall r.answer ≡ told_refusal k) × (r.session ≡ s) × (t' ≡ t)
+      → (told_by_call r.answer ≡ told_refusal k) × (r.session ≡ s) × (t' ≡ t)
   pub search : {s : Session} {t t' : Tables} (way : List ℕ) {way' : List ℕ} {k : ℕ} {r : Outcome} → Searches s t way r t' way' → SearchRules s t way k → k ≢ 0
       → (told_by r.answer way' ≡ told_refusal k) × (r.session ≡ s) × (t' ≡ t) × (way' ≡ way)
 
@@ -36,10 +36,10 @@ pub record Exactly (Rules : ℕ → Type 0) (told : Told) : Type 0 where
 
 -- So of each call.
 pub record RefusesExactly : Type 0 where
-  pub place : {s placed : Session} {cell : ℕ} {r : Reply} → Places s placed cell r → Exactly (PlaceRules s cell) (toldByCall r.answer)
+  pub place : {s placed : Session} {cell : ℕ} {r : Reply} → Places s placed cell r → Exactly (PlaceRules s cell) (told_by_call r.answer)
   pub opening : {width height hunter target : ℕ} {t t' : Tables} {r : Reply} → Opens width height hunter target t r t'
-      → Exactly (OpenRules width height hunter target t) (toldByCall r.answer)
-  pub change : {s : Session} {t t' : Tables} {u d cost : ℕ} {r : Reply} → Changes s t u d cost r t' → Exactly (ChangeRules s t u d cost) (toldByCall r.answer)
+      → Exactly (OpenRules width height hunter target t) (told_by_call r.answer)
+  pub change : {s : Session} {t t' : Tables} {u d cost : ℕ} {r : Reply} → Changes s t u d cost r t' → Exactly (ChangeRules s t u d cost) (told_by_call r.answer)
   pub search : {s : Session} {t t' : Tables} (way : List ℕ) {way' : List ℕ} {r : Outcome} → Searches s t way r t' way'
       → Exactly (SearchRules s t way) (told_by r.answer way')
 

@@ -10,7 +10,7 @@ use Rattle.tables.specs.Told.{told_refusal}
 use Rattle.session.specs.declared.Answer.{Answer as CallAnswer}
 use Rattle.session.specs.declared.Answer.TheVariants.{Refused as RefusedCall}
 use Rattle.session.specs.declared.Reply.{Reply as CallReply}
-use Rattle.session.specs.Refusals.{told_by as toldByCall}
+use Rattle.session.specs.Refusals.{told_by as told_by_call}
 use Rattle.change.specs.Promise.{Changes}
 use Rattle.answer.specs.declared.Answer.{Answer as SearchAnswer}
 use Rattle.answer.specs.declared.Answer.TheVariants.{Way, Refused}
@@ -23,10 +23,10 @@ use Rattle.rongdhesi.specs.Told.{reply_of, byte_of, written_of}
 -- ---- open, place and change
 
 -- The reply to an answer known by its name.
-pub call_told : (s : Session) {a b : CallAnswer} → a ≡ b → reply_of s (toldByCall b) ≡ reply_of s (toldByCall a)
-call_told s e = ap (λ (x : CallAnswer). reply_of s (toldByCall x)) (sym e)
+pub call_told : (s : Session) {a b : CallAnswer} → a ≡ b → reply_of s (told_by_call b) ≡ reply_of s (told_by_call a)
+call_told s e = ap (λ (x : CallAnswer). reply_of s (told_by_call x)) (sym e)
 
-pub call_refused_told : (s : Session) {a : CallAnswer} {n : ℕ} {r : Reply} → a ≡ RefusedCall n → r ≡ reply_of s (told_refusal n) → r ≡ reply_of s (toldByCall a)
+pub call_refused_told : (s : Session) {a : CallAnswer} {n : ℕ} {r : Reply} → a ≡ RefusedCall n → r ≡ reply_of s (told_refusal n) → r ≡ reply_of s (told_by_call a)
 call_refused_told s e f = f ∙ call_told s e
 
 -- ---- search

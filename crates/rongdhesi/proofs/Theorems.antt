@@ -17,7 +17,7 @@ use Rattle.tables.specs.Told.{none_leads as none, refusal, Told, told_refusal}
 use Rattle.session.specs.declared.Answer.{Answer as CallAnswer}
 use Rattle.session.specs.declared.Answer.TheVariants.{Done, Refused}
 use Rattle.session.specs.declared.Reply.{Reply as CallReply}
-use Rattle.session.specs.Refusals.{told_by as toldByCall, PlaceRules, OpenRules}
+use Rattle.session.specs.Refusals.{told_by as told_by_call, PlaceRules, OpenRules}
 use Rattle.session.specs.Promises.{nothing, Places, Opens, Alike}
 use Rattle.session.proofs.Theorems.{one_placing, one_opening}
 use Rattle.change.specs.Refusals.{ChangeRules}
@@ -52,8 +52,8 @@ use Rattle.rongdhesi.specs.Demanded.{ToldExactly, RightlyTold, TakesTheStepsTold
 
 -- ---- what is told of a reply
 
-same_told : {r r' : Reply} {x x' : CallReply} → r ≡ reply_of x.session (toldByCall x.answer) → r' ≡ reply_of x'.session (toldByCall x'.answer) → x ≡ x' → r ≡ r'
-same_told a b e = a ∙ ap (λ (y : CallReply). reply_of y.session (toldByCall y.answer)) e ∙ sym b
+same_told : {r r' : Reply} {x x' : CallReply} → r ≡ reply_of x.session (told_by_call x.answer) → r' ≡ reply_of x'.session (told_by_call x'.answer) → x ≡ x' → r ≡ r'
+same_told a b e = a ∙ ap (λ (y : CallReply). reply_of y.session (told_by_call y.answer)) e ∙ sym b
 
 -- ---- refusals: where k is the number of the first rule broken, the reply is k's and carries nothing else
 
@@ -89,7 +89,7 @@ search_refused way {way'} {k} P rules n =
 abbrev Numbered : Told → Type 0
 Numbered x = ((x.name ≢ refusal) × (x.number ≡ 0)) ⊎ (x ≡ told_refusal x.number)
 
-call_number : (a : CallAnswer) → Numbered (toldByCall a)
+call_number : (a : CallAnswer) → Numbered (told_by_call a)
 call_number Done = inl (λ e. differ cc, refl)
 call_number (Refused n) = inr refl
 
@@ -114,8 +114,8 @@ told_exactly {Rules} s x e E p k = subst (λ (y : Reply). (y.refusal ≡ k) ↔ 
         at R (yes z) = absurd (E.done.1 (subst Rules z R) (ap (λ (y : Told). y.name) q))
         at R (no n) = ap (λ (y : Told). y.number) ((E.refused k).1 (n, R))
 
-call_exactly : {Rules : ℕ → Type 0} {r : Reply} (x : CallReply) → r ≡ reply_of x.session (toldByCall x.answer) → Exactly Rules (toldByCall x.answer) → ToldExactly Rules r
-call_exactly x e E = told_exactly x.session (toldByCall x.answer) e E (call_number x.answer)
+call_exactly : {Rules : ℕ → Type 0} {r : Reply} (x : CallReply) → r ≡ reply_of x.session (told_by_call x.answer) → Exactly Rules (told_by_call x.answer) → ToldExactly Rules r
+call_exactly x e E = told_exactly x.session (told_by_call x.answer) e E (call_number x.answer)
 
 pub placing_exactly : {s placed : Session} {cell : ℕ} {r : Reply} → CallTold (Places s placed cell) r → ToldExactly (PlaceRules s cell) r
 placing_exactly P = call_exactly P.called P.told (demand_1_exactly.place P.promised)

@@ -5,7 +5,7 @@ use Rattle.plan.specs.Cells.{Size}
 use Rattle.tables.specs.declared.Session.{Session}
 use Rattle.tables.specs.Told.{Name, done, caught, none_leads, way, refusal, Told}
 use Rattle.session.specs.declared.Reply.{Reply as CallReply}
-use Rattle.session.specs.Refusals.{told_by as toldByCall}
+use Rattle.session.specs.Refusals.{told_by as told_by_call}
 use Rattle.answer.specs.Answer.{told_by}
 use Rattle.search.specs.declared.Outcome.{Outcome}
 use Rattle.rongdhesi.specs.declared.Reply.{Reply}
@@ -46,7 +46,7 @@ written_of x = record { refusal = x.refusal; bytes = x.bytes }
 pub record CallTold (Promised : CallReply → Type 0) (r : Reply) : Type 0 where
   pub called : CallReply
   pub promised : Promised called
-  pub told : r ≡ reply_of called.session (toldByCall called.answer)
+  pub told : r ≡ reply_of called.session (told_by_call called.answer)
 
 pub record SearchTold (Promised : Outcome → Type 0) (r : Reply) : Type 0 where
   pub called : Outcome

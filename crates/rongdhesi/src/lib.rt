@@ -3,7 +3,7 @@
 ghost use Rattle.std.specs.Prelude.{◌≡◌};
 ghost use Rattle.tables.specs.Lent.{tables};
 ghost use Rattle.tables.specs.Told.{told_refusal};
-ghost use Rattle.session.specs.Refusals.{told_by as toldByCall};
+ghost use Rattle.session.specs.Refusals.{told_by as told_by_call};
 ghost use Rattle.session.specs.Promises.{hunter_at, target_at, Places, Opens};
 ghost use Rattle.change.specs.Promise.{Changes};
 ghost use Rattle.search.specs.Promise.{Searches};
@@ -115,7 +115,7 @@ fn cost_of(cost: u32) -> usize
 
 // The answer of open, place or change in numbers.
 fn told(called: session::Reply) -> Reply
-    ensures { result ≡ reply_of called.session (toldByCall called.answer) }
+    ensures { result ≡ reply_of called.session (told_by_call called.answer) }
 {
     let session = called.session;
     let answer = called.answer;

@@ -8,5 +8,5 @@ print-left-requires g c = first_read c.requires.running c.begin-begun.ensures
 pub returns-then-left-eq0 : goal.returns-then-left-eq0
 returns-then-left-eq0 g c = whole_written c.requires.running c.begin-begun.ensures c.print-left.new.count c.print-left.ensures c.if-left-eq0.true
 
-pub play_all-requires-clause-printing : goal.play_all-requires-clause-printing
-play_all-requires-clause-printing g c = rest_printing c.requires.running c.begin-begun.ensures c.print-left.new.count c.print-left.ensures c.if-left-eq0.false
+pub play_all-requires : goal.play_all-requires
+play_all-requires g c = rest_printing c.requires.running c.begin-begun.ensures c.print-left.new.count c.print-left.ensures c.if-left-eq0.false
