@@ -1,5 +1,7 @@
 // The library for programs that are not written in Rattle: each public call as a C function, on numbers and lent tables.
 // An enum cannot cross, so an answer is told in numbers. `include/rongdhesi.h` declares all of this for C.
+#![tactic(auto)]
+
 ghost use Rattle.std.specs.Prelude.{◌≡◌};
 ghost use Rattle.tables.specs.Lent.{tables};
 ghost use Rattle.tables.specs.Told.{told_refusal};
