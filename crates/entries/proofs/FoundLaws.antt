@@ -34,7 +34,8 @@ pub small_more : (l : List ℕ) {bound more : ℕ} → bound ≤ more → Small 
 small_more l {bound} {more} h S k = ⊎_elim (λ (e : get_or l k 0 ≡ infinite). inl e) (λ (x : get_or l k 0 ≤ bound). inr (omega arith)) (S k)
 
 -- A sum found anew is infinite or a g and a cost.
-pub anew_small : (f : Frame) (plan : List ℕ) → Obeys (floor_in f plan) → (g : List ℕ) → Small most_g g → (s : ℕ) → ((method.anew (graph_in f plan) g s).sum ≡ infinite) ⊎ ((method.anew (graph_in f plan) g s).sum ≤ most_rhs)
+pub anew_small : (f : Frame) (plan : List ℕ) → Obeys (floor_in f plan) → (g : List ℕ) → Small most_g g → (s : ℕ) → ((method.anew (graph_in f plan) g s).sum ≡ infinite) ⊎
+    ((method.anew (graph_in f plan) g s).sum ≤ most_rhs)
 anew_small f plan O g S s = at (anew_least (graph_in f plan) g s).reached
   where
     L : GraphLaws (graph_in f plan)

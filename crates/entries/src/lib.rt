@@ -3,7 +3,7 @@
 
 ghost use Rattle.std.specs.Prelude.{◌≡◌, ◌+◌, ◌<◌, ◌≤◌, get_or, length, replicate};
 ghost use Rattle.method.specs.Numbers.{infinite};
-ghost use Rattle.method.specs.Tables.{least_over, anew as anewOf, found_anew};
+ghost use Rattle.method.specs.Tables.{least_over, anew as anew_of, found_anew};
 ghost use Rattle.method.specs.Session.{fresh as fresh_of};
 ghost use Rattle.queue.specs.Queue.{EntryKept};
 ghost use Rattle.plan.specs.Costs.{plan_of};
@@ -170,7 +170,7 @@ fn looked_at(
 // The first least sum over the neighbours in direction order, with its parent byte.
 pub fn anew(a: Aim, plan: &[u8], g: &[u32], s: usize) -> Found
     requires { Findable a.width a.height plan.now g.now s }
-    ensures { found_of result ≡ anewOf (graph_in (frame_of a) plan.now) g.now s }
+    ensures { found_of result ≡ anew_of (graph_in (frame_of a) plan.now) g.now s }
 {
     let mut best = Found {
         rhs: tables::INFINITE,

@@ -5,7 +5,7 @@ ghost use Rattle.std.specs.Prelude.{◌≡◌, ℕ, ◌+◌, ◌*◌, ◌<◌, �
 ghost use Rattle.decide.specs.Decides.{Decides};
 ghost use Rattle.method.specs.Numbers.{most_cells};
 ghost use Rattle.plan.specs.Directions.{shift_of, row_step, column_step, opposite};
-ghost use Rattle.plan.specs.Cells.{Size, Stays, apart, entered as enteredBy};
+ghost use Rattle.plan.specs.Cells.{Size, Stays, apart, entered as entered_by};
 ghost use Rattle.plan.specs.Costs.{IsByte, plan_of, Bytes, Edge, Edges, Obeys};
 ghost use Rattle.plan.specs.Grid.{out_by, into_by};
 ghost use Rattle.plan.specs.Reached.{listed, At, Placed, EdgeAsked, between};
@@ -144,7 +144,7 @@ pub fn moved(at: Spot, d: usize) -> Spot
 pub fn entered(width: usize, cell: usize, d: usize) -> usize
     requires d_bound { d < 4 }
     requires width_bound { (width ≤ 64) × (cell < most_cells) × (width + 1 ≤ cell + row_step d * width + column_step d) }
-    ensures { result ≡ enteredBy width cell d }
+    ensures { result ≡ entered_by width cell d }
 {
     let shift = shift_of(d);
     cell + shift.row as usize * width + shift.column as usize - (width + 1)

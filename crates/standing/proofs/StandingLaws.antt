@@ -8,7 +8,7 @@ use Rattle.tables.specs.declared.Session.{Session}
 use Rattle.tables.specs.Lent.{Tables, frame, session, core}
 use Rattle.tables.specs.Sound.{Sound}
 use Rattle.session.specs.declared.Reply.{Reply}
-use Rattle.session.specs.Promises.{hunter_at as hunterPlacedAt, target_at as targetPlacedAt, Places}
+use Rattle.session.specs.Promises.{hunter_at as hunter_placed_at, target_at as target_placed_at, Places}
 use Rattle.session.proofs.Theorems.{hunter_placed_sound, target_placed_sound}
 use Rattle.change.specs.Promise.{replanned, Changes}
 use Rattle.change.proofs.Theorems.{change_keeps_sound}
@@ -36,11 +36,11 @@ place_leaves {s} {t = t} {r = r} e S P = record {
   done = λ z. ap (λ x. stands x t) (P.done z);
 }
 
-pub hunter_leaves : {s : Session} {t : Tables} {cell : ℕ} {r : Reply} → Sound s t → (P : Places s (hunterPlacedAt s cell) cell r)
+pub hunter_leaves : {s : Session} {t : Tables} {cell : ℕ} {r : Reply} → Sound s t → (P : Places s (hunter_placed_at s cell) cell r)
     → Leaves s t P.number (hunter_at (stands s t) cell) r.session t
 hunter_leaves S P = place_leaves refl (hunter_placed_sound S P) P
 
-pub target_leaves : {s : Session} {t : Tables} {cell : ℕ} {r : Reply} → Sound s t → (P : Places s (targetPlacedAt s cell) cell r)
+pub target_leaves : {s : Session} {t : Tables} {cell : ℕ} {r : Reply} → Sound s t → (P : Places s (target_placed_at s cell) cell r)
     → Leaves s t P.number (target_at (stands s t) cell) r.session t
 target_leaves S P = place_leaves refl (target_placed_sound S P) P
 

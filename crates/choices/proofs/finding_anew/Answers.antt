@@ -1,10 +1,5 @@
 -- Each return is a case of the method's `renewed`, over what `move_out` answers of the move and what `anew` finds (AskLaws).
-use mathlib.Core.Path.{◌≡◌}
-use mathlib.Core.List.{[], ◌∷◌}
 use native.Mathlib.Omega.{arith}
-use Rattle.method.specs.Graph.{move}
-use Rattle.plan.specs.Grid.{out_by}
-use Rattle.entries.specs.Aims.{floor}
 use Rattle.entries.proofs.AnewLaws.{said_shut, said_to}
 use Rattle.choices.proofs.AskLaws.{enters_by, renews_none, renews_hunter, renews_not, child_findable, renews_at}
 use Rattle.choices.proofs.finding_anew.Goals as goal
@@ -13,21 +8,21 @@ pub returns-in_default : goal.returns-in_default
 returns-in_default c = renews_none c.requires (said_shut c.in_default.not-To c.move_out-reach.ensures)
 
 pub returns-then-s-a : goal.returns-then-s-a
-returns-then-s-a c = let move_open : move c.in-To.code c.in-To.s c.in-To.field-2 ∷ [] ≡ out_by (floor c.args.a c.args.plan.now) c.args.u c.args.d = said_to c.in-To.is c.move_out-reach.ensures in
+returns-then-s-a c = let move_open = said_to c.in-To.is c.move_out-reach.ensures in
     renews_hunter c.requires move_open c.if-s-a.true
 
 pub bounds-parent-s : goal.bounds-parent-s
-bounds-parent-s c = let move_open : move c.in-To.code c.in-To.s c.in-To.field-2 ∷ [] ≡ out_by (floor c.args.a c.args.plan.now) c.args.u c.args.d = said_to c.in-To.is c.move_out-reach.ensures in
+bounds-parent-s c = let move_open = said_to c.in-To.is c.move_out-reach.ensures in
     omega (arith, (enters_by c.requires.leaving move_open).0.inside, c.requires.long_parent)
 
 pub returns-then-parent-s : goal.returns-then-parent-s
-returns-then-parent-s c = let move_open : move c.in-To.code c.in-To.s c.in-To.field-2 ∷ [] ≡ out_by (floor c.args.a c.args.plan.now) c.args.u c.args.d = said_to c.in-To.is c.move_out-reach.ensures in
+returns-then-parent-s c = let move_open = said_to c.in-To.is c.move_out-reach.ensures in
     renews_not c.requires move_open c.if-s-a.false c.if-parent-s.true
 
 pub anew-f-requires : goal.anew-f-requires
-anew-f-requires c = let move_open : move c.in-To.code c.in-To.s c.in-To.field-2 ∷ [] ≡ out_by (floor c.args.a c.args.plan.now) c.args.u c.args.d = said_to c.in-To.is c.move_out-reach.ensures in
+anew-f-requires c = let move_open = said_to c.in-To.is c.move_out-reach.ensures in
     child_findable c.requires move_open
 
 pub returns : goal.returns
-returns c = let move_open : move c.in-To.code c.in-To.s c.in-To.field-2 ∷ [] ≡ out_by (floor c.args.a c.args.plan.now) c.args.u c.args.d = said_to c.in-To.is c.move_out-reach.ensures in
+returns c = let move_open = said_to c.in-To.is c.move_out-reach.ensures in
     renews_at c.requires move_open c.if-s-a.false c.if-parent-s.false c.anew-f.ensures

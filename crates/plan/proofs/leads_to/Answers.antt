@@ -15,4 +15,10 @@ entered-requires-clause-width_bound c = let z = c.requires.size in
     (z.narrow, omega (arith, c.requires.a_bound.0, area z), omega (arith, entered_sum c.args.width c.args.a c.args.d z.wide m.north m.west))
 
 pub returns : goal.returns
-returns c = decides_eq _ _ (λ e. record { direction = c.requires.a_bound.2; stays_in = ((c.stays_in.ensures _ c.requires.a_bound.1 c.requires.a_bound.0).so (c.if-not-stays_in.false)); enters = sym c.entered.ensures ∙ e }) (λ l. c.entered.ensures ∙ l.enters)
+returns c =
+    decides_eq _ _ (λ e. record {
+      direction = c.requires.a_bound.2;
+      stays_in = ((c.stays_in.ensures _ c.requires.a_bound.1 c.requires.a_bound.0).so (c.if-not-stays_in.false));
+      enters = sym
+          c.entered.ensures ∙ e;
+    }) (λ l. c.entered.ensures ∙ l.enters)

@@ -15,4 +15,5 @@ sift_up-i-requires-clause-loose c = (put_in_loose c.requires.heap c.requires.cel
 
 pub returns-clause-changed : goal.returns-clause-changed
 returns-clause-changed c = let settled = reshaped c.sift_up-i.ensures (risen_last (before_order _ _ _) refl c.sift_up-i.ensures.shape) in
-    stood c.requires.heap c.requires.cell_in_bounds (λ z. absurd (never refl z)) settled refl (put_in_members c.requires.heap c.requires.cell_in_bounds c.requires.cell_value) c.stand.ensures.place_after c.stand.ensures.list_after
+    stood c.requires.heap c.requires.cell_in_bounds (λ z. absurd (never refl z)) settled refl (put_in_members c.requires.heap c.requires.cell_in_bounds c.requires.cell_value)
+    c.stand.ensures.place_after c.stand.ensures.list_after

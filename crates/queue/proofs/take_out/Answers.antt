@@ -15,4 +15,6 @@ settle-j-requires-clause-loose c = let l = (take-out-loose c.requires.heap c.req
 
 pub returns-clause-changed : goal.returns-clause-changed
 returns-clause-changed c = let members = take_out_members c.requires.heap c.requires.cell_in_bounds c.requires.fact c.wide-i.ensures c.if-last-i.false c.wide-moved.ensures in
-    stood c.requires.heap c.requires.cell_in_bounds (λ z. (refl, refl)) c.settle-j.ensures (long_list ((take-out-loose c.requires.heap c.requires.cell_in_bounds c.requires.fact c.wide-i.ensures c.if-last-i.false c.wide-moved.ensures)).0) members c.stand.ensures.place_after c.stand.ensures.list_after
+    stood c.requires.heap c.requires.cell_in_bounds (λ z. (refl, refl)) c.settle-j.ensures (long_list
+    ((take-out-loose c.requires.heap c.requires.cell_in_bounds c.requires.fact c.wide-i.ensures c.if-last-i.false c.wide-moved.ensures)).0) members c.stand.ensures.place_after
+    c.stand.ensures.list_after
