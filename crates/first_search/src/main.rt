@@ -9,14 +9,23 @@ use session;
 use std::io;
 use tables::Session;
 
+// Prints a word and a number.
+fn say_number(rt: &impl Print, word: &str, n: u64) -> io::Result<()> {
+    print!(rt; "{word}{n}")
+}
+
 // Prints an answer on a line.
 fn say(rt: &impl Print, answer: Answer) -> io::Result<()> {
     match answer {
-        Answer::Caught(cell) => println!(rt; "caught at {cell}"),
-        Answer::NoWay(steps) => println!(rt; "none steps {steps}"),
-        Answer::Way(cost, steps, _) => println!(rt; "way {cost} steps {steps}"),
-        Answer::Refused(number) => println!(rt; "refused {number}"),
+        Answer::Caught(cell) => say_number(rt, "caught at ", cell as u64)?,
+        Answer::NoWay(steps) => say_number(rt, "none steps ", steps as u64)?,
+        Answer::Way(cost, steps, _) => {
+            say_number(rt, "way ", cost as u64)?;
+            say_number(rt, " steps ", steps as u64)?;
+        }
+        Answer::Refused(number) => say_number(rt, "refused ", number as u64)?,
     }
+    println!(rt; "")
 }
 
 // Searches, prints the answer, and returns the record for the next call.
