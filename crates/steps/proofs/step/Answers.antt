@@ -1,9 +1,4 @@
 -- The three kinds of step, each by the promise of the function that takes it and its case of the method's `stepped` (StepLaws).
-use mathlib.Core.Path.{◌≡◌}
-use lib.Dec.{ltb}
-use Rattle.method.specs.Tables.{stored_key, calculated_key}
-use Rattle.tables.specs.Lent.{tables, core}
-use Rattle.entries.specs.Aims.{hunt}
 use Rattle.entries.proofs.FoundLaws.{became_as}
 use Rattle.steps.proofs.StepLaws.{put_back_is, lowered_is, raised_is}
 use Rattle.steps.proofs.step.Goals as goal

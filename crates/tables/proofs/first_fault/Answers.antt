@@ -3,7 +3,7 @@ use borrow.Author.Count.{below_more}
 use native.Mathlib.Omega.{arith}
 use Rattle.decide.proofs.DecideLaws.{refuted}
 use Rattle.tables.specs.Lent.{tables}
-use Rattle.tables.specs.Rules.{Numbers, AloneIn, RulesBefore, nowhere, in_record, in_cell, in_move}
+use Rattle.tables.specs.Rules.{RulesBefore, nowhere, in_record, in_cell, in_move}
 use Rattle.tables.proofs.first_fault.Goals as goal
 
 pub returns-then-not-numbers_hold : goal.returns-then-not-numbers_hold

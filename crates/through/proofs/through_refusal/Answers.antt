@@ -4,7 +4,7 @@ use native.Mathlib.Omega.{arith}
 use Rattle.decide.specs.Decides.{Decides}
 use Rattle.decide.specs.Ruled.{fails, holds, passed}
 use Rattle.decide.proofs.DecideLaws.{refuted}
-use Rattle.plan.specs.Cells.{Size, Stays}
+use Rattle.plan.specs.Cells.{Stays}
 use Rattle.plan.specs.Costs.{plan_of, Edges}
 use Rattle.through.proofs.through_refusal.Goals as goal
 
