@@ -6,8 +6,8 @@ use native.Mathlib.Omega.{arith}
 use native.Mathlib.Decide.{ℕ_discrete}
 use lib.ListN.{get_or, set}
 use lib.Seq.{set-get_or}
-use Rattle.method.specs.Sound as method-sound
-use Rattle.method.proofs.Theorems as method-theorems
+use Rattle.method.specs.Sound as method_sound
+use Rattle.method.proofs.Theorems as method_theorems
 use Rattle.plan.specs.Costs.{Obeys}
 use Rattle.plan.proofs.CellLaws.{enters}
 use Rattle.plan.proofs.ChangeLaws.{changed_obeys}
@@ -108,9 +108,9 @@ changed_sound {s} {t} {t'} {u} {d} {cost} {r} P e =
           subst (λ x. Obeys (floor s x)) (sym p.plan)
           (changed_obeys (floor s t.plan) w.sound.plan u d cost w.cell_in w.direction w.stays_in w.byte);
       numbers =
-          subst (λ x. method-sound.Sound (graph_in (frame s) x) (session s) (core t')) (sym p.plan)
-          (subst (λ T. method-sound.Sound (graph s (with_plan t (replanned s t u d cost))) (session s) T) (sym p.is)
-          (method-theorems.move_changed_sound (altered_in (frame s) t.plan w.sound.plan u d cost w.cell_in w.direction w.stays_in w.byte) w.sound.numbers
+          subst (λ x. method_sound.Sound (graph_in (frame s) x) (session s) (core t')) (sym p.plan)
+          (subst (λ T. method_sound.Sound (graph s (with_plan t (replanned s t u d cost))) (session s) T) (sym p.is)
+          (method_theorems.move_changed_sound (altered_in (frame s) t.plan w.sound.plan u d cost w.cell_in w.direction w.stays_in w.byte) w.sound.numbers
           (enters w.sound.plan.size.wide w.stays_in).inside));
       heap = p.heap;
     }

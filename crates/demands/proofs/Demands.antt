@@ -10,7 +10,7 @@ use Rattle.decide.proofs.ChooseLaws.{differ}
 use Rattle.method.specs.Numbers.{renewal}
 use Rattle.method.specs.Graph.{GraphLaws}
 use Rattle.method.specs.Session as calls
-use Rattle.method.specs.Sound as method-sound
+use Rattle.method.specs.Sound as method_sound
 use Rattle.method.specs.Course.{Runs}
 use Rattle.method.specs.Walk.{NoChain, RightAnswer, none_there, way_there}
 use Rattle.method.proofs.Theorems as method
@@ -107,10 +107,10 @@ module _ {s : Session} {t : Tables} (S : Sound s t) where
       sound_again = sound;
     }
       where
-        numbers : method-sound.Sound (graph s t) (session r.session) (core t')
+        numbers : method_sound.Sound (graph s t) (session r.session) (core t')
         numbers =
-            subst (λ σ. method-sound.Sound (graph s t) σ (core t')) (sym done.record_is)
-            (subst (λ T. method-sound.Sound (graph s t) (outcome s t).session T) (sym done.tables_are) (method.search_sound laws S.numbers))
+            subst (λ σ. method_sound.Sound (graph s t) σ (core t')) (sym done.record_is)
+            (subst (λ T. method_sound.Sound (graph s t) (outcome s t).session T) (sym done.tables_are) (method.search_sound laws S.numbers))
 
         -- what holds of the frame and the plan as they came holds of them now
         still : (P : Frame → List ℕ → Type 0) → P (frame s) t.plan → P (frame r.session) t'.plan
@@ -119,7 +119,7 @@ module _ {s : Session} {t : Tables} (S : Sound s t) where
         sound : Sound r.session t'
         sound = record {
           plan = still (λ f plan. Obeys (floor_in f plan)) S.plan;
-          numbers = still (λ f plan. method-sound.Sound (graph_in f plan) (session r.session) (core t')) numbers;
+          numbers = still (λ f plan. method_sound.Sound (graph_in f plan) (session r.session) (core t')) numbers;
           heap = still (λ f _. Heap f.width (f.height * f.width) r.session.count t'.k1 t'.k2 t'.place t'.list) done.heap;
         }
 
@@ -138,7 +138,7 @@ no_refusal (suc n) f = absurd (f refl)
 exactly : {x : Told} {Rules : ℕ → Type 0} {n : ℕ} → ((k : ℕ) → Rules k → n ≡ k) → Rules n → x ≡ told_number n → Exactly Rules x
 exactly {x} {Rules} {n} one R e = record {
   refused = λ k. (
-    λ q. let z = refused_number n k (sym e ∙ q) in (λ zero-k. z.0 (z.1 ∙ zero-k), subst Rules z.1 R),
+    λ q. let z = refused_number n k (sym e ∙ q) in (λ zero_k. z.0 (z.1 ∙ zero_k), subst Rules z.1 R),
     λ q. e ∙ ap told_number (one k q.1) ∙ sym (refusal_told k q.0),
   );
   done = (

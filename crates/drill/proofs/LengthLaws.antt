@@ -9,7 +9,7 @@ use Rattle.decide.proofs.ChooseLaws.{choose_is}
 use Rattle.method.specs.Tables as method
 use Rattle.method.specs.Graph.{Graph, Hunt}
 use Rattle.method.specs.Loop.{run}
-use Rattle.method.specs.Session as method-session
+use Rattle.method.specs.Session as method_session
 use Rattle.method.proofs.Searching.{of_search}
 use Rattle.plan.specs.Costs.{cells}
 use Rattle.plan.proofs.MoveLaws.{area}
@@ -29,26 +29,26 @@ use Rattle.drill.specs.Output.{begun, output}
 use Rattle.drill.specs.Promises.{NextPiece}
 
 -- A way has a cell more than it has links, at most one for each cell of the plan.
-way_few : (H : Hunt) (parent : List ℕ) (links s : ℕ) (rest : List ℕ) → length (method-session.way_from H parent links s rest) ≤ links + 1 + length rest
-unfolding method-session.way_from
+way_few : (H : Hunt) (parent : List ℕ) (links s : ℕ) (rest : List ℕ) → length (method_session.way_from H parent links s rest) ≤ links + 1 + length rest
+unfolding method_session.way_from
 way_few H parent zero s rest = omega arith
 way_few H parent (suc links) s rest =
     choose_is (λ (l : List ℕ). length l ≤ suc links + 1 + length rest) _ (λ _. omega arith)
-    (λ _. omega (arith, way_few H parent links (method-session.parent_cell (H.graph.into s) (get_or parent s 0)) (s ∷ rest)))
+    (λ _. omega (arith, way_few H parent links (method_session.parent_cell (H.graph.into s) (get_or parent s 0)) (s ∷ rest)))
 
-cells_few : (G : Graph) (σ : method-session.Session) (T : method.Tables) → length (cells_of (method-session.search G σ T).answer) ≤ G.cells + 1
-unfolding method-session.answer_of
+cells_few : (G : Graph) (σ : method_session.Session) (T : method.Tables) → length (cells_of (method_session.search G σ T).answer) ≤ G.cells + 1
+unfolding method_session.answer_of
 cells_few G σ T =
     of_search G σ T (λ o. Q o.answer) (λ _. omega arith) (λ _. choose_is Q _ (λ _. choose_is Q _ (λ _. omega arith) (λ _. way_fits)) (λ _. omega arith))
   where
-    Q : method-session.Answer → Type 0
+    Q : method_session.Answer → Type 0
     Q a = length (cells_of a) ≤ G.cells + 1
 
     H : Hunt
-    H = method-session.hunt_of G (method-session.taken_over G σ T).session
+    H = method_session.hunt_of G (method_session.taken_over G σ T).session
 
-    way_fits : length (method-session.way_from H (run H (3 * G.cells) (method-session.taken_over G σ T).tables).tables.parent G.cells H.target []) ≤ G.cells + 1
-    way_fits = omega (arith, way_few H (run H (3 * G.cells) (method-session.taken_over G σ T).tables).tables.parent G.cells H.target [])
+    way_fits : length (method_session.way_from H (run H (3 * G.cells) (method_session.taken_over G σ T).tables).tables.parent G.cells H.target []) ≤ G.cells + 1
+    way_fits = omega (arith, way_few H (run H (3 * G.cells) (method_session.taken_over G σ T).tables).tables.parent G.cells H.target [])
 
 -- A space and a number take 21 bytes at most.
 spaced_few : (l : List ℕ) → length (spaced l) ≤ 21 * length l
@@ -61,12 +61,12 @@ refusal_few : (n : ℕ) → length (refused_line n) ≤ 74
 unfolding bytes
 refusal_few n = simp length-append (omega (arith, decimal_few n))
 
-line_few : (a : method-session.Answer) → length (line (answer_of a) (cells_of a)) ≤ 53 + 21 * length (cells_of a)
+line_few : (a : method_session.Answer) → length (line (answer_of a) (cells_of a)) ≤ 53 + 21 * length (cells_of a)
 unfolding bytes
-line_few (method-session.caught s) = simp length-append (omega (arith, decimal_few s))
-line_few (method-session.none_leads n) = simp length-append (omega (arith, decimal_few n))
-line_few (method-session.way c n l) = simp length-append (omega (arith, decimal_few c, decimal_few n, spaced_few l))
-line_few method-session.cut_off = simp length-append (omega (arith, decimal_few 9))
+line_few (method_session.caught s) = simp length-append (omega (arith, decimal_few s))
+line_few (method_session.none_leads n) = simp length-append (omega (arith, decimal_few n))
+line_few (method_session.way c n l) = simp length-append (omega (arith, decimal_few c, decimal_few n, spaced_few l))
+line_few method_session.cut_off = simp length-append (omega (arith, decimal_few 9))
 
 -- An action prints a line of so many bytes at most and keeps the size of the plan.
 Short : ℕ → Turn → Type 0

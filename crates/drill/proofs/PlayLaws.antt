@@ -10,7 +10,7 @@ use lib.ListN.{length, take, drop}
 use lib.Seq.{take-append_seam}
 use Rattle.decide.specs.Ruled.{Ruled, fails, holds, Passed, passed}
 use Rattle.decide.proofs.RuledLaws.{passed_zero, onward}
-use Rattle.method.specs.Session as method-session
+use Rattle.method.specs.Session as method_session
 use Rattle.decide.specs.Choose.{choose}
 use Rattle.decide.specs.Decides.{Decides}
 use Rattle.decide.proofs.ChooseLaws.{choose_yes, choose_no}
@@ -27,7 +27,7 @@ use Rattle.session.proofs.Theorems.{place_answer}
 use Rattle.change.specs.Promise.{Changes}
 use Rattle.change.proofs.Theorems.{change_answer}
 use Rattle.search.specs.declared.Outcome.{Outcome}
-use Rattle.answer.specs.declared.Answer as search-answer
+use Rattle.answer.specs.declared.Answer as search_answer
 use Rattle.answer.specs.Answer.{count_of, answer_of, cells_of}
 use Rattle.answer.proofs.AnswerLaws.{count_told}
 use Rattle.search.specs.Promise.{outcome, written, Searched, Searches}
@@ -134,11 +134,11 @@ module _ {s : Session} {t t' : Tables} {way way' : List ℕ} {r : Outcome} (S : 
       at (way_shown n c l) = l
 
   -- The line that it prints is the definition's.
-  line_is : (a : method-session.Answer) → line (answer_of a) (take (count_of (answer_of a)) (written (cells_of a) way)) ≡ line (answer_of a) (cells_of a)
-  line_is (method-session.caught x) = refl
-  line_is (method-session.none_leads n) = refl
-  line_is (method-session.way c n l) = ap (λ k. line (answer_of (method-session.way c n l)) k) (take-append_seam l (drop (length l) way))
-  line_is method-session.cut_off = refl
+  line_is : (a : method_session.Answer) → line (answer_of a) (take (count_of (answer_of a)) (written (cells_of a) way)) ≡ line (answer_of a) (cells_of a)
+  line_is (method_session.caught x) = refl
+  line_is (method_session.none_leads n) = refl
+  line_is (method_session.way c n l) = ap (λ k. line (answer_of (method_session.way c n l)) k) (take-append_seam l (drop (length l) way))
+  line_is method_session.cut_off = refl
 
   -- What it leaves, the cells that it writes, and its line, are the definition's.
   pub search_is : turn (stands s t) Search ≡ record { after = stands r.session t'; shown = cells_of (outcome s t).answer; line = line r.answer (take (count_of r.answer) way') }
@@ -153,7 +153,7 @@ module _ {s : Session} {t t' : Tables} {way way' : List ℕ} {r : Outcome} (S : 
 
       printed_is : printed ≡ line (answer_of (outcome s t).answer) (cells_of (outcome s t).answer)
       printed_is =
-          ap (λ (a : search-answer.Answer). line a (take (count_of a) way')) (searched_answer D)
+          ap (λ (a : search_answer.Answer). line a (take (count_of a) way')) (searched_answer D)
           ∙ ap (λ w. line (answer_of (outcome s t).answer) (take (count_of (answer_of (outcome s t).answer)) w)) D.shown ∙ line_is (outcome s t).answer
 
   pub search_turns : {text text' : List ℕ} {used end : ℕ} → Put text used (line r.answer (take (count_of r.answer) way')) end text'

@@ -6,7 +6,7 @@ use Rattle.method.specs.Tables as method
 use Rattle.method.specs.Graph.{Hunt}
 use Rattle.method.specs.Steps.{Kind, stepped}
 use Rattle.method.specs.Loop.{Step}
-use Rattle.method.specs.Session as method-session
+use Rattle.method.specs.Session as method_session
 use Rattle.plan.specs.Costs.{cells}
 use Rattle.answer.specs.Answer.{answer_of, cells_of}
 use Rattle.search.specs.Promise.{written}
@@ -30,7 +30,7 @@ abbrev pub refused : Standing → ℕ → Turn
 refused S number = record { after = S; shown = []; line = refused_line number }
 
 -- A search writes the cells of its answer and prints its line.
-abbrev pub answered : Standing → method-session.Answer → Turn
+abbrev pub answered : Standing → method_session.Answer → Turn
 answered S a = record { after = S; shown = cells_of a; line = line (answer_of a) (cells_of a) }
 
 -- One action. A badly formed one is in no file that is played.
@@ -74,8 +74,8 @@ taken_from H T (x ∷ l) =
 -- The steps of a search, from the tables taken over.
 abbrev pub taken_in : Standing → List Taken
 taken_in S =
-    let taken = method-session.taken_over (graph_at S) S.session S.tables in
-    taken_from (method-session.hunt_of (graph_at S) taken.session) taken.tables (search_at S).steps
+    let taken = method_session.taken_over (graph_at S) S.session S.tables in
+    taken_from (method_session.hunt_of (graph_at S) taken.session) taken.tables (search_at S).steps
 
 -- The steps of each search among the actions.
 unfoldable pub taken_by : Standing → List Action → List (List Taken)

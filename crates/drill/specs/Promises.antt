@@ -9,7 +9,7 @@ use Rattle.session.specs.Promises.{nothing}
 use Rattle.search.specs.Promise.{written}
 use Rattle.standing.specs.Standing.{Standing, stands}
 use Rattle.drill_file.specs.declared.Action.{Action}
-use Rattle.drill_file.specs.File as drill-file
+use Rattle.drill_file.specs.File as drill_file
 use Rattle.drill_file.specs.Numbers.{file_number}
 use Rattle.text.specs.Put.{Put}
 use Rattle.lines.specs.Lines.{refused_line, room}
@@ -51,15 +51,15 @@ pub record Plays (file : List ℕ) (s : Session) (t : Tables) (way : List ℕ) (
   pub place : r.at ≡ at + 5 * done
   pub sound : Sound r.session t'
   pub frame_is : frame r.session ≡ frame s
-  pub after : stands r.session t' ≡ left_by (stands s t) (drill-file.actions_from file at done)
-  pub shown : way' ≡ way_left (stands s t) (drill-file.actions_from file at done) way
-  pub lines : Put text 0 (played (stands s t) (drill-file.actions_from file at done)) r.used text'
+  pub after : stands r.session t' ≡ left_by (stands s t) (drill_file.actions_from file at done)
+  pub shown : way' ≡ way_left (stands s t) (drill_file.actions_from file at done) way
+  pub lines : Put text 0 (played (stands s t) (drill_file.actions_from file at done)) r.used text'
   pub stops : (r.left ≡ 0) ⊎ (length text < r.used + room (cells s))
   pub goes_on : room (cells s) ≤ length text → 0 < left → 0 < done
 
 -- A file can be opened on tables of the size that its trailer tells, with room for the line of a refusal; it may be any byte string.
 pub record Opening (file : List ℕ) (t : Tables) (text : List ℕ) : Type 0 where
-  pub fits : Fits (drill-file.cells_in file) t
+  pub fits : Fits (drill_file.cells_in file) t
   pub text_room : room 0 ≤ length text
 
 -- A file is refused by a number: the record's fields are all 0, nothing is left to play, and the line is put into the text.
@@ -73,8 +73,8 @@ pub record Refuses (number : ℕ) (text : List ℕ) (r : Played) (text' : List �
 pub record Starts (file : List ℕ) (text : List ℕ) (r : Played) (t' : Tables) (text' : List ℕ) : Type 0 where
   pub sound : Sound r.session t'
   pub after : stands r.session t' ≡ begun file
-  pub place : r.at ≡ (drill-file.trailer_of file).offset
-  pub all_left : r.left ≡ (drill-file.trailer_of file).actions
+  pub place : r.at ≡ (drill_file.trailer_of file).offset
+  pub all_left : r.left ≡ (drill_file.trailer_of file).actions
   pub unused : r.used ≡ 0
   pub blank : text' ≡ text
 

@@ -6,7 +6,7 @@ use Rattle.std.proofs.Math.Decide.{ℕ_discrete, dec_lt}
 use Rattle.decide.specs.Choose.{choose}
 use Rattle.plan.specs.Cells.{Stays, stays}
 use Rattle.plan.specs.Costs.{Plan, plan_of, cells, byte, shut, IsCost, is_cost, IsByte, Bytes, Edge, Edges}
-use Rattle.drill_file.specs.File as drill-file
+use Rattle.drill_file.specs.File as drill_file
 
 -- Whether a statement holds of every number below n.
 unfoldable pub below : {P : ℕ → Type 0} → ((i : ℕ) → Dec (P i)) → (n : ℕ) → Dec ((i : ℕ) → i < n → P i)
@@ -67,14 +67,14 @@ open_number p hunter target =
 
 -- The plan of a file: its first 4N bytes.
 abbrev pub plan_in : List ℕ → List ℕ
-plan_in file = take (4 * drill-file.cells (drill-file.trailer_of file)) file
+plan_in file = take (4 * drill_file.cells (drill_file.trailer_of file)) file
 
 -- The floor plan that they make, of the size that the trailer tells.
 abbrev pub floor_of : List ℕ → Plan
-floor_of file = plan_of (drill-file.trailer_of file).width (drill-file.trailer_of file).height (plan_in file)
+floor_of file = plan_of (drill_file.trailer_of file).width (drill_file.trailer_of file).height (plan_in file)
 
 -- The number by which a file is refused, 0 if it is played: its form, "then open's checks".
 unfoldable pub file_number : List ℕ → ℕ
 file_number file =
-    choose (ℕ_discrete (drill-file.form_number file) 0) (open_number (floor_of file) (drill-file.trailer_of file).hunter (drill-file.trailer_of file).target)
-    (drill-file.form_number file)
+    choose (ℕ_discrete (drill_file.form_number file) 0) (open_number (floor_of file) (drill_file.trailer_of file).hunter (drill_file.trailer_of file).target)
+    (drill_file.form_number file)

@@ -159,14 +159,14 @@ module _ {a : Aim} {plan : List ℕ} (A : Aimed a plan) where
     unfolding blank
     blank_core = rw (B.g_is, B.rhs_is, B.parent_is, B.k1_is, B.k2_is, B.place_is, members_none (area a), set_replicate (area a) a.hunter 0) refl
 
-    module _ (zero-km : a.km ≡ 0) {count : ℕ} {k1' k2' place' list' : List ℕ} (E : Entered a a.hunter g (set rhs a.hunter 0) k1 k2 place list count k1' k2' place' list') where
+    module _ (zero_km : a.km ≡ 0) {count : ℕ} {k1' k2' place' list' : List ℕ} (E : Entered a a.hunter g (set rhs a.hunter 0) k1 k2 place list count k1' k2' place' list') where
       pub fresh_became : Became a count (tables plan g (set rhs a.hunter 0) parent k1' k2' place' list') (fresh (graph_in (frame_of a) plan) a.hunter a.target)
       unfolding fresh
       fresh_became =
           record {
             is =
                 (E plan parent).is ∙ ap (λ T. method.set_right (hunt a plan) T a.hunter) blank_core
-                ∙ ap (λ k. method.set_right (record { graph = graph_in (frame_of a) plan; hunter = a.hunter; target = a.target; km = k }) (method.with_rhs (blank (area a)) a.hunter 0 0) a.hunter) zero-km;
+                ∙ ap (λ k. method.set_right (record { graph = graph_in (frame_of a) plan; hunter = a.hunter; target = a.target; km = k }) (method.with_rhs (blank (area a)) a.hunter 0 0) a.hunter) zero_km;
             heap = (E plan parent).heap;
           }
 

@@ -3,7 +3,7 @@ use Rattle.std.specs.Prelude.{◌≡◌, ◌⊎◌, List, ℕ, ◌+◌, ◌*◌,
 use Rattle.method.specs.Numbers.{infinite, most_cost}
 use Rattle.method.specs.Graph.{Hunt}
 use Rattle.method.specs.Tables.{Sized}
-use Rattle.method.specs.Session as method-session
+use Rattle.method.specs.Session as method_session
 use Rattle.queue.specs.Queue.{Heap}
 use Rattle.plan.specs.Cells.{Stands}
 use Rattle.plan.specs.Costs.{Plan, plan_of, Obeys}
@@ -29,7 +29,7 @@ abbrev pub hunt : Aim → List ℕ → Hunt
 hunt a plan = record { graph = graph_in (frame_of a) plan; hunter = a.hunter; target = a.target; km = a.km }
 
 -- What the last search taken over goes by, in this frame and the method's session σ, with its target's row and column.
-abbrev pub aim_by : Frame → method-session.Session → ℕ → ℕ → Aim
+abbrev pub aim_by : Frame → method_session.Session → ℕ → ℕ → Aim
 aim_by f σ row column = record { width = f.width; height = f.height; hunter = σ.origin; target = σ.goal; row = row; column = column; km = σ.km }
 
 -- So of a session's record.

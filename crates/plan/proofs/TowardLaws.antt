@@ -9,12 +9,12 @@ use Rattle.plan.specs.Costs.{Plan, byte, IsCost}
 use Rattle.plan.specs.Grid.{graph_of}
 use Rattle.plan.specs.Toward.{Leads, Neighbours}
 use Rattle.plan.proofs.DirectionLaws.{opposes}
-use Rattle.plan.proofs.CellLaws.{enters, stays_back, back_again, one_direction as one-step}
+use Rattle.plan.proofs.CellLaws.{enters, stays_back, back_again, one_direction as one_step}
 use Rattle.plan.proofs.GridLaws.{into_is, into_has}
 
 -- So the byte of the move from a to b is one.
 pub one_direction : {width height a b d e : ℕ} → 1 ≤ width → Leads width height a d b → Leads width height a e b → d ≡ e
-one_direction wide l m = one-step wide l.direction m.direction l.stays_in m.stays_in (l.enters ∙ sym m.enters)
+one_direction wide l m = one_step wide l.direction m.direction l.stays_in m.stays_in (l.enters ∙ sym m.enters)
 
 -- No cell is its own neighbour: a step leads one row or one column away.
 pub not_its_own : {width height a : ℕ} → 1 ≤ width → Neighbours width height a a → ⊥

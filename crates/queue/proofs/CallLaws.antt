@@ -181,10 +181,10 @@ module _ {width room count : ℕ} {k1 k2 place list : List ℕ} (h : Heap width 
       cut_list : set (list_after i (count - 1) list) (count - 1) absent ≡ set (set list (count - 1) absent) i moved
       cut_list = cc (em, set-set (set list i moved) (count - 1) (get_or list i 0) absent, set_comm list i (count - 1) moved absent (λ e. omega arith))
 
-      pub take-out-loose
+      pub take_out_loose
           : (Held width room (count - 1) moved i (set k1 c 0) (set k2 c 0) (set place c absent) (set list (count - 1) absent))
           × (Loose (before width (set k1 c 0) (set k2 c 0)) (count - 1) i (set (set list (count - 1) absent) i moved))
-      take-out-loose =
+      take_out_loose =
           let x = exchanged h.tables inside.0 inside.1 refl refl in
           let stays : (x : ℕ) → x < count - 1 → (x ≡ i → ⊥) → get_or (set (set list (count - 1) absent) i moved) x 0 ≡ get_or list x 0 =
           λ x d away. get_or-set_other (set list (count - 1) absent) i x moved 0 away ∙ get_or-set_other list (count - 1) x absent 0 (λ e. omega arith) in (

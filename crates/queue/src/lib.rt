@@ -199,7 +199,7 @@ pub fn put_in(
 ) -> usize
     requires heap { Heap width (length list.old) count k1.old k2.old place.old list.old }
     requires cell_in_bounds { cell < length list.old }
-    requires cell_value { get_or place.old cell 0 ≡ absent }
+    requires not_queued { get_or place.old cell 0 ≡ absent }
     ensures value { result ≡ count + 1 }
     ensures changed { Changed width (length list.old) result cell first second true k1.old k2.old place.old k1.new k2.new place.new list.new }
 {
@@ -224,7 +224,7 @@ pub fn put_under(
 )
     requires heap { Heap width (length list.old) count k1.old k2.old place.old list.old }
     requires cell_in_bounds { cell < length list.old }
-    requires fact { get_or place.old cell 0 ≡ absent → ⊥ }
+    requires queued { get_or place.old cell 0 ≡ absent → ⊥ }
     ensures changed { Changed width (length list.old) count cell first second true k1.old k2.old place.old k1.new k2.new place.new list.new }
     ensures entry_kept { EntryKept count k1.old k2.old place.old list.old count k1.new k2.new place.new list.new }
 {
@@ -249,7 +249,7 @@ pub fn take_out(
 ) -> usize
     requires heap { Heap width (length list.old) count k1.old k2.old place.old list.old }
     requires cell_in_bounds { cell < length list.old }
-    requires fact { get_or place.old cell 0 ≡ absent → ⊥ }
+    requires queued { get_or place.old cell 0 ≡ absent → ⊥ }
     ensures result_value { result + 1 ≡ count }
     ensures changed { Changed width (length list.old) result cell 0 0 false k1.old k2.old place.old k1.new k2.new place.new list.new }
 {

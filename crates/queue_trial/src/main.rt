@@ -68,7 +68,7 @@ fn take_least(
 ) -> usize
     requires heap { Heap width (length list.old) count k1.old k2.old place.old list.old }
     requires count_nonzero { 0 < count }
-    ensures heap_2 { Heap width (length list.old) result k1.new k2.new place.new list.new }
+    ensures heap_after { Heap width (length list.old) result k1.new k2.new place.new list.new }
     ensures result_value { result + 1 ≡ count }
 {
     let cell = queue::least(list);

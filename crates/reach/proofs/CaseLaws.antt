@@ -132,7 +132,7 @@ leads_out p rows s d =
     at (yes i) (yes m) (no n) j = no (λ o. n o.is_shut)
     at (yes i) (yes m) (yes e) (yes j) = no (λ o. o.leaves j)
 
-module _ (p : Plan) (rows list : List ℕ) (count : ℕ) (where-is : ℕ → ℕ) where
+module _ (p : Plan) (rows list : List ℕ) (count : ℕ) (where_is : ℕ → ℕ) where
   abbrev out : ℕ → Bool
   out x = is_yes (leads_out p rows (x / 4) (x % 4))
 
@@ -140,18 +140,18 @@ module _ (p : Plan) (rows list : List ℕ) (count : ℕ) (where-is : ℕ → ℕ
   right i = ltb (get_or list i 0) (4 * cells p) && out (get_or list i 0)
 
   abbrev there : ℕ → Bool
-  there x = not (out x) || (ltb (where-is x) count && eqb (get_or list (where-is x) 0) x)
+  there x = not (out x) || (ltb (where_is x) count && eqb (get_or list (where_is x) 0) x)
 
   abbrev rises : ℕ → Bool
   rises j = all (λ i. ltb (get_or list i 0) (get_or list j 0)) j
 
-  -- Each listed place is one that leads out, each such place is listed where `where-is` says, and the places rise.
+  -- Each listed place is one that leads out, each such place is listed where `where_is` says, and the places rise.
   outs_by : count ≤ 4 * cells p → T (all right count) → T (all there (4 * cells p)) → T (all rises count) → Outs p (Marked p.width rows) list count (4 * cells p)
   outs_by few each every rising = record {
     few = few;
     below = λ i l. ltb→lt (get_or list i 0) (4 * cells p) (each_at i l).0;
     each = λ i l. yes_is (leads_out p rows (get_or list i 0 / 4) (get_or list i 0 % 4)) (each_at i l).1;
-    all = λ x l o. listed x (both (ltb (where-is x) count) (eqb (get_or list (where-is x) 0) x) (other (not (out x)) (ltb (where-is x) count && eqb (get_or list (where-is x) 0) x)
+    all = λ x l o. listed x (both (ltb (where_is x) count) (eqb (get_or list (where_is x) 0) x) (other (not (out x)) (ltb (where_is x) count && eqb (get_or list (where_is x) 0) x)
         (all_at there (4 * cells p) every x l) (λ n. T_not (out x) n (is_yes_where (leads_out p rows (x / 4) (x % 4)) o))));
     ordered = λ i j l m. ltb→lt (get_or list i 0) (get_or list j 0) (all_at (λ i. ltb (get_or list i 0) (get_or list j 0)) j (all_at rises count rising j m) i l);
   }
@@ -159,8 +159,8 @@ module _ (p : Plan) (rows list : List ℕ) (count : ℕ) (where-is : ℕ → ℕ
       each_at : (i : ℕ) → i < count → T (ltb (get_or list i 0) (4 * cells p)) × T (out (get_or list i 0))
       each_at i l = both (ltb (get_or list i 0) (4 * cells p)) (out (get_or list i 0)) (all_at right count each i l)
 
-      listed : (x : ℕ) → T (ltb (where-is x) count) × T (eqb (get_or list (where-is x) 0) x) → Listed list count x
-      listed x b = record { place = where-is x; low = ltb→lt (where-is x) count b.0; is = eqb→eq (get_or list (where-is x) 0) x b.1 }
+      listed : (x : ℕ) → T (ltb (where_is x) count) × T (eqb (get_or list (where_is x) 0) x) → Listed list count x
+      listed x b = record { place = where_is x; low = ltb→lt (where_is x) count b.0; is = eqb→eq (get_or list (where_is x) 0) x b.1 }
 
 -- ---- what is answered
 

@@ -9,8 +9,8 @@ use lib.ListN.{get_or, get_or-eq_default}
 use lib.Seq.{ext_get_or}
 use Rattle.method.specs.Tables as method
 use Rattle.method.specs.Session.{opened}
-use Rattle.method.specs.Sound as method-sound
-use Rattle.method.proofs.Theorems as method-theorems
+use Rattle.method.specs.Sound as method_sound
+use Rattle.method.proofs.Theorems as method_theorems
 use Rattle.queue.specs.Queue.{absent, members, Heap}
 use Rattle.queue.proofs.MemberLaws.{missing, is_absent, member_at, tally}
 use Rattle.queue.proofs.PlaceLaws.{counted as tallied, not_absent, place_used}
@@ -182,9 +182,9 @@ pub fresh_sound : {f : Frame} {hunter target : ℕ} {t t' : Tables} → Openable
 fresh_sound {f} {hunter} {target} {t} {t'} o p = record {
   plan = subst (λ x. Obeys (floor_in f x)) (sym p.plan) o.obeys;
   numbers =
-      subst (λ x. method-sound.Sound (graph_in f x) (opened hunter target) (core t')) (sym p.plan)
-      (subst (λ T. method-sound.Sound (graph_in f t.plan) (opened hunter target) T) (sym p.is)
-      (method-theorems.open_sound (graph_in_laws f t.plan o.obeys.size) hunter target o.hunter_in o.target_in));
+      subst (λ x. method_sound.Sound (graph_in f x) (opened hunter target) (core t')) (sym p.plan)
+      (subst (λ T. method_sound.Sound (graph_in f t.plan) (opened hunter target) T) (sym p.is)
+      (method_theorems.open_sound (graph_in_laws f t.plan o.obeys.size) hunter target o.hunter_in o.target_in));
   heap = p.heap;
 }
 
@@ -204,7 +204,7 @@ placed_sound {s} {placed} {t} {cell} {r} S f P = at (ℕ_discrete P.number 0)
     at (no n) = subst (λ x. Sound x t) (sym (P.refused n)) S
 
 pub hunter_placed_sound : {s : Session} {t : Tables} {cell : ℕ} {r : Reply} → Sound s t → Places s (hunter_at s cell) cell r → Sound r.session t
-hunter_placed_sound {cell = cell} S = placed_sound S (λ l. record { plan = S.plan; numbers = method-theorems.hunter_placed_sound S.numbers cell l; heap = S.heap })
+hunter_placed_sound {cell = cell} S = placed_sound S (λ l. record { plan = S.plan; numbers = method_theorems.hunter_placed_sound S.numbers cell l; heap = S.heap })
 
 pub target_placed_sound : {s : Session} {t : Tables} {cell : ℕ} {r : Reply} → Sound s t → Places s (target_at s cell) cell r → Sound r.session t
-target_placed_sound {cell = cell} S = placed_sound S (λ l. record { plan = S.plan; numbers = method-theorems.target_placed_sound S.numbers cell l; heap = S.heap })
+target_placed_sound {cell = cell} S = placed_sound S (λ l. record { plan = S.plan; numbers = method_theorems.target_placed_sound S.numbers cell l; heap = S.heap })

@@ -4,7 +4,7 @@ use Rattle.std.specs.Borrow.{Bor}
 use denote.Triple.Both.{Both}
 use Rattle.method.specs.Graph.{Graph}
 use Rattle.method.specs.Tables as method
-use Rattle.method.specs.Session as method-session
+use Rattle.method.specs.Session as method_session
 use Rattle.queue.specs.Queue.{members}
 use Rattle.plan.specs.Costs.{Plan, plan_of}
 use Rattle.plan.specs.Grid.{graph_of}
@@ -91,7 +91,7 @@ floor s plan = floor_in (frame s) plan
 abbrev pub graph : Session → Tables → Graph
 graph s t = graph_in (frame s) t.plan
 
-abbrev pub session : Session → method-session.Session
+abbrev pub session : Session → method_session.Session
 session s = record {
   hunter = s.hunter;
   target = s.target;

@@ -7,8 +7,8 @@ use Rattle.drill_file.proofs.cells_told.Goals as goal
 
 pub returns-then-not-is_size : goal.returns-then-not-is_size
 unfolding cells_told
-returns-then-not-is_size c = passed_by _ _ (refuted c.is_size.ensures (c.if-not-is_size.true)) refl
+returns-then-not-is_size c = passed_by _ _ (refuted c.is_size.ensures c.if-not-is_size.true) refl
 
 pub returns : goal.returns
 unfolding cells_told
-returns c = chosen _ _ (c.is_size.ensures.so (c.if-not-is_size.false)) refl
+returns c = chosen _ _ (c.is_size.ensures.so c.if-not-is_size.false) refl

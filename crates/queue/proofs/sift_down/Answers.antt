@@ -10,7 +10,7 @@ use Rattle.queue.proofs.sift_down.Goals as goal
 pub returns-then-not-key_before : goal.returns-then-not-key_before
 returns-then-not-key_before c = let l = c.loop-i.invariant in
     reshaped l (stay_over (before_order _ _ _) l.shape.0 (lesser_meant _ c.lesser_under-under.ensures)
-    ((second_before c.loop-i.invariant.held c.lesser_under-under.ensures.inside (λ e. omega (arith, c.lesser_under-under.ensures.under.low)) c.wide-lesser.ensures ((c.key_of-key.ensures))
+    ((second_before c.loop-i.invariant.held c.lesser_under-under.ensures.inside (λ e. omega (arith, c.lesser_under-under.ensures.under.low)) c.wide-lesser.ensures (c.key_of-key.ensures)
     c.key_of-lesser_key.ensures c.key_before.ensures) ∙ c.if-not-key_before.true))
 
 pub stand-requires : goal.stand-requires
@@ -19,7 +19,7 @@ stand-requires c = may_pass c.loop-i.invariant.held c.lesser_under-under.ensures
 pub loop-i-preserved : goal.loop-i-preserved
 loop-i-preserved c = let l = c.loop-i.invariant in
     let s = passed l.held c.lesser_under-under.ensures.inside (λ e. omega (arith, c.lesser_under-under.ensures.under.low)) c.wide-lesser.ensures c.stand.ensures.place_after c.stand.ensures.list_after in
-    let moves = (second_before c.loop-i.invariant.held c.lesser_under-under.ensures.inside (λ e. omega (arith, c.lesser_under-under.ensures.under.low)) c.wide-lesser.ensures ((c.key_of-key.ensures))
+    let moves = (second_before c.loop-i.invariant.held c.lesser_under-under.ensures.inside (λ e. omega (arith, c.lesser_under-under.ensures.under.low)) c.wide-lesser.ensures (c.key_of-key.ensures)
     c.key_of-lesser_key.ensures c.key_before.ensures) ∙ c.if-not-key_before.false in
     record {
       held = s.0;

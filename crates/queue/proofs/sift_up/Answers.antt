@@ -20,7 +20,7 @@ returns-then-not-key_before c = let l = c.loop-i.invariant in
     let u = above c.loop-i-test.true in
     reshaped l (risen (before_order _ _ _) l.shape (stay_under (before_order _ _ _) l.shape.loose u
     ((let u = above c.loop-i-test.true in first_before c.loop-i.invariant.held (above_inside u c.loop-i.invariant.held.inside) (λ e. omega (arith, u.low)) c.wide-upper.ensures
-    ((c.key_of-key.ensures)) c.key_of-upper_key.ensures c.key_before.ensures) ∙ c.if-not-key_before.true)))
+    (c.key_of-key.ensures) c.key_of-upper_key.ensures c.key_before.ensures) ∙ c.if-not-key_before.true)))
 
 pub stand-requires : goal.stand-requires
 stand-requires c = let l = c.loop-i.invariant in
@@ -33,7 +33,7 @@ loop-i-preserved c = let l = c.loop-i.invariant in
     let b = above_inside u l.held.inside in
     let s = passed l.held b (λ e. omega (arith, u.low)) c.wide-upper.ensures c.stand.ensures.place_after c.stand.ensures.list_after in
     let moves = (let u = above c.loop-i-test.true in first_before c.loop-i.invariant.held (above_inside u c.loop-i.invariant.held.inside) (λ e. omega (arith, u.low)) c.wide-upper.ensures
-    ((c.key_of-key.ensures)) c.key_of-upper_key.ensures c.key_before.ensures) ∙ c.if-not-key_before.false in
+    (c.key_of-key.ensures) c.key_of-upper_key.ensures c.key_before.ensures) ∙ c.if-not-key_before.false in
     record {
       held = s.0;
       membership = s.1 ∙ l.membership;

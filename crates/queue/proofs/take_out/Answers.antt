@@ -1,20 +1,20 @@
 -- The cell is cut off, and the last entry, if it is another, is in hand over its place and stands where it settles from there.
 use mathlib.Core.Path.{refl}
 use Rattle.queue.proofs.HoleLaws.{long_list, held_own}
-use Rattle.queue.proofs.CallLaws.{last_out, take-out-loose, take_out_members, stood}
+use Rattle.queue.proofs.CallLaws.{last_out, take_out_loose, take_out_members, stood}
 use Rattle.queue.proofs.take_out.Goals as goal
 
 pub returns-then-last-i-clause-changed : goal.returns-then-last-i-clause-changed
-returns-then-last-i-clause-changed c = last_out c.requires.heap c.requires.cell_in_bounds c.requires.fact c.wide-i.ensures c.if-last-i.true
+returns-then-last-i-clause-changed c = last_out c.requires.heap c.requires.cell_in_bounds c.requires.queued c.wide-i.ensures c.if-last-i.true
 
 pub settle-j-requires-clause-held : goal.settle-j-requires-clause-held
-settle-j-requires-clause-held c = let l = (take-out-loose c.requires.heap c.requires.cell_in_bounds c.requires.fact c.wide-i.ensures c.if-last-i.false c.wide-moved.ensures) in held_own l.0
+settle-j-requires-clause-held c = let l = (take_out_loose c.requires.heap c.requires.cell_in_bounds c.requires.queued c.wide-i.ensures c.if-last-i.false c.wide-moved.ensures) in held_own l.0
 
 pub settle-j-requires-clause-loose : goal.settle-j-requires-clause-loose
-settle-j-requires-clause-loose c = let l = (take-out-loose c.requires.heap c.requires.cell_in_bounds c.requires.fact c.wide-i.ensures c.if-last-i.false c.wide-moved.ensures) in l.1
+settle-j-requires-clause-loose c = let l = (take_out_loose c.requires.heap c.requires.cell_in_bounds c.requires.queued c.wide-i.ensures c.if-last-i.false c.wide-moved.ensures) in l.1
 
 pub returns-clause-changed : goal.returns-clause-changed
-returns-clause-changed c = let members = take_out_members c.requires.heap c.requires.cell_in_bounds c.requires.fact c.wide-i.ensures c.if-last-i.false c.wide-moved.ensures in
+returns-clause-changed c = let members = take_out_members c.requires.heap c.requires.cell_in_bounds c.requires.queued c.wide-i.ensures c.if-last-i.false c.wide-moved.ensures in
     stood c.requires.heap c.requires.cell_in_bounds (λ z. (refl, refl)) c.settle-j.ensures (long_list
-    ((take-out-loose c.requires.heap c.requires.cell_in_bounds c.requires.fact c.wide-i.ensures c.if-last-i.false c.wide-moved.ensures)).0) members c.stand.ensures.place_after
+    (take_out_loose c.requires.heap c.requires.cell_in_bounds c.requires.queued c.wide-i.ensures c.if-last-i.false c.wide-moved.ensures).0) members c.stand.ensures.place_after
     c.stand.ensures.list_after

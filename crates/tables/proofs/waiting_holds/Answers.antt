@@ -12,4 +12,4 @@ key_holds-requires c = let estimate_is : c.estimate-e.result ≡ estimate c.args
 
 pub returns : goal.returns
 returns c = let estimate_is : c.estimate-e.result ≡ estimate c.args.s.width c.args.u c.args.s.goal = let p = c.requires.cell_asked in c.estimate-e.ensures ∙ estimate_at p.here p.there in
-    waiting_by_key estimate_is (c.queued_holds.ensures.so (c.if-not-queued_holds.false)) c.key_holds.ensures
+    waiting_by_key estimate_is (c.queued_holds.ensures.so c.if-not-queued_holds.false) c.key_holds.ensures
