@@ -1,7 +1,5 @@
 -- The session record and the lent tables, and how the method reads them.
 use Rattle.std.specs.Prelude.{◌≡◌, List, ℕ, ◌*◌, length}
-use Rattle.std.specs.Borrow.{Bor}
-use denote.Triple.Both.{Both}
 use Rattle.method.specs.Graph.{Graph}
 use Rattle.method.specs.Tables as method
 use Rattle.method.specs.Session as method_session
@@ -9,6 +7,7 @@ use Rattle.queue.specs.Queue.{members}
 use Rattle.plan.specs.Costs.{Plan, plan_of}
 use Rattle.plan.specs.Grid.{graph_of}
 use Rattle.tables.specs.declared.Session.{Session}
+use Rattle.tables.specs.declared.Ahead.{Ahead}
 
 -- "plan 4N bytes; g, rhs, k1, k2; parent bytes; places and list"
 pub record Tables : Type 0 where
@@ -25,25 +24,18 @@ abbrev pub tables : List ℕ → List ℕ → List ℕ → List ℕ → List ℕ
 tables plan g rhs parent k1 k2 place list =
     record { plan = plan; g = g; rhs = rhs; parent = parent; k1 = k1; k2 = k2; place = place; list = list }
 
-abbrev pub Lent : Type 0
-Lent = Bor (List ℕ)
+-- The tables that a call finds, or leaves: a plan, g, and what stands ahead of g.
+abbrev pub lent : List ℕ → List ℕ → Ahead → Tables
+lent plan g a = tables plan g a.rhs.now a.parent.now a.k1.now a.k2.now a.place.now a.list.now
 
-abbrev pub Lent2 : Type 0
-Lent2 = Both Lent Lent
-
--- The tables as a call gets them, for a requires.
-abbrev pub given : Lent → Lent → Lent → Lent → Lent → Lent → Lent → Lent → Tables
-given plan g rhs parent k1 k2 place list =
-    tables plan.now g.now rhs.now parent.now k1.now k2.now place.now list.now
-
--- The tables as a call got them, and as it leaves them, for an ensures.
-abbrev pub before : Lent2 → Lent2 → Lent2 → Lent2 → Lent2 → Lent2 → Lent2 → Lent2 → Tables
-before plan g rhs parent k1 k2 place list =
-    given plan.entry g.entry rhs.entry parent.entry k1.entry k2.entry place.entry list.entry
-
-abbrev pub after : Lent2 → Lent2 → Lent2 → Lent2 → Lent2 → Lent2 → Lent2 → Lent2 → Tables
-after plan g rhs parent k1 k2 place list =
-    given plan.exit g.exit rhs.exit parent.exit k1.exit k2.exit place.exit list.exit
+-- The call keeps the caller's own tables: it writes in them, and puts none in another's place.
+pub record SameTables (a a' : Ahead) : Type 0 where
+  pub rhs : a'.rhs.ghost_name ≡ a.rhs.ghost_name
+  pub parent : a'.parent.ghost_name ≡ a.parent.ghost_name
+  pub k1 : a'.k1.ghost_name ≡ a.k1.ghost_name
+  pub k2 : a'.k2.ghost_name ≡ a.k2.ghost_name
+  pub place : a'.place.ghost_name ≡ a.place.ghost_name
+  pub list : a'.list.ghost_name ≡ a.list.ghost_name
 
 -- What open fixes for as long as the session lasts.
 pub record Frame : Type 0 where

@@ -32,6 +32,17 @@ pub struct Session {
     pub searches: u32,
 }
 
+// What stands one step ahead of g, lent by the caller: each cell's rhs and parent, and the queue of the cells at which g and rhs differ.
+#[derive(Drop)]
+pub struct Ahead<'a> {
+    pub rhs: &'a mut [u32],
+    pub parent: &'a mut [u8],
+    pub k1: &'a mut [u32],
+    pub k2: &'a mut [u32],
+    pub place: &'a mut [u16],
+    pub list: &'a mut [u16],
+}
+
 // The infinite number.
 pub const INFINITE: u32 = 4294967295;
 

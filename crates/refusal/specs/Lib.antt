@@ -1,0 +1,2 @@
+-- Document 01's refusals and their numbers.
+pub mod Numbers
