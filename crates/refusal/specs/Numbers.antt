@@ -1,5 +1,5 @@
 -- The numbers of document 01's refusals, and the number that the result of a check tells.
-use Rattle.std.specs.Prelude.{ℕ, Result, Ok, Err}
+use Rattle.std.specs.Prelude.{List, ℕ, ◌++◌, Result, Ok, Err, codes, decimal}
 use Rattle.refusal.specs.declared.Refusal.{Refusal}
 use Rattle.refusal.specs.declared.Refusal.TheVariants.{Size, Length, Cell, Move, Cost, Tables, Room, File, CutOff}
 
@@ -19,3 +19,7 @@ number_of CutOff = 9
 abbrev pub number_in : {A : Type 0} → Result A Refusal → ℕ
 number_in (Ok _) = 0
 number_in (Err r) = number_of r
+
+-- What is printed of a refusal.
+abbrev pub told : Refusal → List ℕ
+told r = codes "refused " ++ decimal (number_of r)

@@ -1,8 +1,10 @@
 // Document 01's refusals: what each is of, and its number.
 #![tactic(auto)]
 
-ghost use Rattle.std.specs.Prelude.{◌≡◌};
-ghost use Rattle.refusal.specs.Numbers.{number_of};
+ghost use Rattle.std.specs.Prelude.{◌≡◌, Some};
+ghost use Rattle.refusal.specs.Numbers.{number_of, told};
+
+use std::fmt;
 
 // What is at fault: the size; a table's length; a given cell; a direction, or a move that leaves the plan; a cost byte;
 // the tables, which are not sound; the room for what is written; a drill file's form; a search cut off after three steps for each cell.
@@ -35,5 +37,15 @@ impl From<Refusal> for u8 {
             Refusal::File => 8,
             Refusal::CutOff => 9,
         }
+    }
+}
+
+// "A refusal carries its number only."
+impl fmt::Display for Refusal {
+    ghost output = { λ refusal. Some (told refusal) };
+
+    fn fmt<W: fmt::Write>(&self, f: &mut fmt::Formatter<W>) -> fmt::Result {
+        let number = u8::from(*self);
+        write!(f, "refused {number}")
     }
 }
