@@ -4,7 +4,7 @@
 ghost use Rattle.std.specs.Prelude.{◌≡◌, ◌+◌, ◌≤◌, length, take};
 ghost use Rattle.tables.specs.Lent.{tables};
 ghost use Rattle.drill.specs.Output.{output};
-ghost use Rattle.printing.specs.Promises.{counted, Piece, Printing, Moves, WrittenTo};
+ghost use Rattle.printing.specs.Promises.{Piece, Printing, Moves, WrittenTo};
 
 use drill::Played;
 use drill_file;
@@ -20,9 +20,6 @@ pub fn file_in(input: &[u8], got: usize) -> &[u8]
     &input[0..got]
 }
 
-// What the count of bytes written is once a write has failed: a number that no output has, so that no piece is the next any more.
-const FAILED: usize = 18446744073709551615;
-
 // The one function that writes to standard output, and the one that moves the count on. The first `used` bytes of the text are the next piece of the output of the file, the first `got` bytes of the input.
 // What is then left to play: nothing once a write has failed, which is told.
 fn write_piece<R: Print + Eprint>(
@@ -32,17 +29,19 @@ fn write_piece<R: Print + Eprint>(
     text: &[u8],
     used: usize,
     left: usize,
-    count: &mut [usize],
+    count: &mut Option<usize>,
 ) -> usize
     requires { Piece input.now got text.now used count.old }
-    ensures { Moves result left 0 (counted count.old + used) count.new }
+    ensures { Moves result left 0 used count.old count.new }
 {
     if let Err(why) = rt.write_all(&text[0..used]) {
         failure::tell(rt, "write", why);
-        count[0] = FAILED;
+        *count = None;
         return 0;
     }
-    count[0] += used;
+    if let Some(written) = count {
+        *written += used;
+    }
     left
 }
 
@@ -53,10 +52,10 @@ pub fn print<R: Print + Eprint>(
     got: usize,
     text: &[u8],
     played: Played,
-    count: &mut [usize],
+    count: &mut Option<usize>,
 ) -> usize
     requires { Piece input.now got text.now played.used count.old }
-    ensures { Moves result played.left 0 (counted count.old + played.used) count.new }
+    ensures { Moves result played.left 0 played.used count.old count.new }
 {
     write_piece(rt, input, got, text, played.used, played.left, count)
 }
@@ -70,7 +69,7 @@ pub fn play_all<R: Print + Eprint>(
     start: usize,
     actions: usize,
     s: Session,
-    count: &mut [usize],
+    count: &mut Option<usize>,
     plan: &mut [u8],
     g: &mut [u32],
     rhs: &mut [u32],

@@ -1,7 +1,8 @@
 -- A file begun and its first piece printed, and the parts of the tables that are lent.
-use mathlib.Core.Path.{◌≡◌, sym, ap, subst, ◌∙◌}
+use mathlib.Core.Path.{◌≡◌, refl, sym, ap, subst, ◌∙◌}
 use mathlib.Core.Logic.{inl, inr, ⊎_elim}
 use mathlib.Core.List.{List}
+use Rattle.std.specs.Prelude.{Option, Some, option_map}
 use Prim.Native.Nat.{ℕ, ◌+◌, ◌*◌, ◌-◌, ◌≤◌}
 use native.Mathlib.Omega.{arith}
 use lib.ListN.{length, take, drop}
@@ -16,7 +17,7 @@ use Rattle.drill.specs.declared.Played.{Played}
 use Rattle.drill.specs.Output.{output}
 use Rattle.drill.specs.Promises.{Playing, Begins, Unprinted, NextPiece}
 use Rattle.drill.proofs.PieceLaws.{from_start, all_printed, first_piece, first_printed, begun_long, begun_used, begun_playing}
-use Rattle.printing.specs.Promises.{counted, Piece, Moves, Printing, WrittenTo}
+use Rattle.printing.specs.Promises.{Piece, Moves, Printing, WrittenTo}
 use Rattle.runner.specs.Own.{Own, Running, most_cells}
 
 -- ---- the parts of the tables
@@ -33,12 +34,12 @@ pub parts_room : (x : Trailer) {n : ℕ} → n ≡ cells_told x → n ≤ most_c
 parts_room x e = omega (arith, cells_few x)
 
 -- What was read can be run on the parts that it asks for.
-pub running : {plan g rhs parent k1 k2 place list way text : List ℕ} {input : List ℕ} {got : ℕ} {file : List ℕ} (count : List ℕ) {x : Trailer} {n : ℕ} → got ≤ length input → file ≡ take got input
-    → counted count ≡ 0 → Own plan g rhs parent k1 k2 place list way text → x ≡ trailer_in file → n ≡ cells_told x
+pub running : {plan g rhs parent k1 k2 place list way text : List ℕ} {input : List ℕ} {got : ℕ} {file : List ℕ} {count : Option ℕ} {x : Trailer} {n : ℕ} → got ≤ length input → file ≡ take got input
+    → count ≡ Some 0 → Own plan g rhs parent k1 k2 place list way text → x ≡ trailer_in file → n ≡ cells_told x
     → Running input got file count
     (tables (part (4 * n) plan) (part n g) (part n rhs) (part n parent) (part n k1) (part n k2) (part n place) (part n list))
     way text
-running {plan} {g} {rhs} {parent} {k1} {k2} {place} {list} {file = file} count {x} {n} read is none O trailer told = record {
+running {plan} {g} {rhs} {parent} {k1} {k2} {place} {list} {file = file} {x = x} {n = n} read is none O trailer told = record {
   read = read;
   part = is;
   unwritten = none;
@@ -67,36 +68,43 @@ running {plan} {g} {rhs} {parent} {k1} {k2} {place} {list} {file = file} count {
 
 -- ---- a file begun
 
-module _ {input : List ℕ} {got : ℕ} {file count : List ℕ} {t : Tables} {way text : List ℕ} {r : Played} {t' : Tables} {text' : List ℕ}
+module _ {input : List ℕ} {got : ℕ} {file : List ℕ} {count : Option ℕ} {t : Tables} {way text : List ℕ} {r : Played} {t' : Tables} {text' : List ℕ}
     (R : Running input got file count t way text) (B : Begins file t text r t' text') where
   -- What begin leaves in the text is the first piece of the output of what was read.
   pub first_read : Piece input got text' r.used count
   first_read = record {
     read = R.read;
     put = begun_used B;
-    next = subst (λ n. NextPiece (take got input) n (take r.used text')) (sym R.unwritten) (subst (λ f. NextPiece f 0 (take r.used text')) R.part (first_piece B));
+    written = 0;
+    counted = R.unwritten;
+    next = subst (λ f. NextPiece f 0 (take r.used text')) R.part (first_piece B);
   }
 
   -- Once it is printed, or a write failed ..
-  module _ {left : ℕ} (count' : List ℕ) (M : Moves left r.left 0 (counted count + r.used) count') where
-    first_counted : counted count' ≡ counted count + r.used → Unprinted file (counted count') (stands r.session t') (actions_from file r.at r.left)
-    first_counted e = first_printed B (e ∙ ap (λ n. n + r.used) R.unwritten)
+  module _ {left : ℕ} {count' : Option ℕ} (M : Moves left r.left 0 r.used count count') where
+    first_counted : count' ≡ option_map (λ written. written + r.used) count → count' ≡ Some (0 + r.used)
+    first_counted e = e ∙ ap (option_map (λ written. written + r.used)) R.unwritten
+
+    rest : Unprinted file (0 + r.used) (stands r.session t') (actions_from file r.at r.left)
+    rest = first_printed B refl
 
     -- .. and nothing is left to play, all of the output is written;
     pub whole_written : left ≡ 0 → WrittenTo (length (output file)) count'
-    whole_written none = ⊎_elim (λ m. inl (all_printed r.at (sym m.0 ∙ none) (first_counted m.1))) (λ f. inr f.1) M
+    whole_written none = ⊎_elim (λ m. inl (first_counted m.1 ∙ ap Some (all_printed r.at (sym m.0 ∙ none) rest))) (λ f. inr f.1) M
 
     -- .. else what is left can be played and printed.
     pub rest_printing : (left ≡ 0 → ⊥) → Printing input got file r.session t' way r.at left text' count'
     rest_printing some = ⊎_elim (λ m. subst (λ n. Printing input got file r.session t' way r.at n text' count') (sym m.0) (goes_on m.0 m.1)) (λ f. absurd (some f.0)) M
       where
-        goes_on : left ≡ r.left → counted count' ≡ counted count + r.used → Printing input got file r.session t' way r.at r.left text' count'
+        goes_on : left ≡ r.left → count' ≡ option_map (λ written. written + r.used) count → Printing input got file r.session t' way r.at r.left text' count'
         goes_on e moved = record {
           read = R.read;
           part = R.part;
           playing = can_play;
           text_room = omega (arith, R.text_room, begun_long B, area can_play.sound.plan.size);
-          unprinted = first_counted moved;
+          written = 0 + r.used;
+          counted = first_counted moved;
+          unprinted = rest;
         }
           where
             can_play : Playing file r.session t' way r.at r.left

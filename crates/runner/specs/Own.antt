@@ -1,9 +1,8 @@
 -- "The runner holds one plan of 4,096 cells in arrays of its own", and a text for the lines.
-use Rattle.std.specs.Prelude.{◌≡◌, List, ℕ, ◌*◌, ◌≤◌, length, take}
+use Rattle.std.specs.Prelude.{◌≡◌, List, ℕ, ◌*◌, ◌≤◌, length, take, Option, Some}
 use Rattle.tables.specs.Lent.{Tables}
 use Rattle.lines.specs.Lines.{room}
 use Rattle.drill.specs.Promises.{Opening}
-use Rattle.printing.specs.Promises.{counted}
 
 abbrev pub most_cells : ℕ
 most_cells = 4096
@@ -22,10 +21,10 @@ pub record Own (plan g rhs parent k1 k2 place list way text : List ℕ) : Type 0
   pub text_room : room most_cells ≤ length text
 
 -- A file can be run: it is the first `got` bytes of what was read, nothing is written yet, the tables have its size, and there is room for every way and every line.
-pub record Running (input : List ℕ) (got : ℕ) (file count : List ℕ) (t : Tables) (way text : List ℕ) : Type 0 where
+pub record Running (input : List ℕ) (got : ℕ) (file : List ℕ) (count : Option ℕ) (t : Tables) (way text : List ℕ) : Type 0 where
   pub read : got ≤ length input
   pub part : file ≡ take got input
-  pub unwritten : counted count ≡ 0
+  pub unwritten : count ≡ Some 0
   pub opening : Opening file t text
   pub way_room : most_cells ≤ length way
   pub text_room : room most_cells ≤ length text

@@ -1,11 +1,11 @@
 // The drill runner: reads one drill file and prints a line for each search. What it hands to each write is the next piece of the output of what it read; only that the bytes cross is outside.
 #![tactic(auto)]
 
-ghost use Rattle.std.specs.Prelude.{◌≡◌, ◌≤◌, length, take};
+ghost use Rattle.std.specs.Prelude.{◌≡◌, ◌≤◌, length, take, Some};
 ghost use Rattle.tables.specs.Lent.{tables};
 ghost use Rattle.drill_file.specs.File.{trailer_in};
 ghost use Rattle.drill.specs.Output.{output};
-ghost use Rattle.printing.specs.Promises.{counted, WrittenTo};
+ghost use Rattle.printing.specs.Promises.{WrittenTo};
 ghost use Rattle.runner.specs.Own.{Own, Running};
 
 use drill_file;
@@ -30,7 +30,7 @@ fn run<R: Print + Eprint>(
     got: usize,
     file: &[u8],
     t: Trailer,
-    count: &mut [usize],
+    count: &mut Option<usize>,
     plan: &mut [u8],
     g: &mut [u32],
     rhs: &mut [u32],
@@ -78,7 +78,7 @@ fn run_file<R: Print + Eprint>(
     rt: &R,
     input: &[u8],
     got: usize,
-    count: &mut [usize],
+    count: &mut Option<usize>,
     plan: &mut [u8],
     g: &mut [u32],
     rhs: &mut [u32],
@@ -91,7 +91,7 @@ fn run_file<R: Print + Eprint>(
     text: &mut [u8],
 )
     requires got_in_bounds { got ≤ length input.now }
-    requires count_value { counted count.old ≡ 0 }
+    requires unwritten { count.old ≡ Some 0 }
     requires own { Own plan.old g.old rhs.old parent.old k1.old k2.old place.old list.old way.old text.old }
     ensures { WrittenTo (length (output (take got input.now))) count.new }
 {
@@ -129,7 +129,7 @@ fn run_input<R: Print + Eprint, I: Read>(rt: &R, reader: &mut I, name: &str) {
             return;
         }
     };
-    let mut count = [0usize; 1];
+    let mut count = Some(0);
     let mut plan = [SHUT; 16384];
     let mut g = [INFINITE; 4096];
     let mut rhs = [INFINITE; 4096];

@@ -11,4 +11,4 @@ slice_bounds-run-end g c = omega (arith, parts_room _ c.cells_told-n.ensures, c.
 
 pub run-requires-clause-running : goal.run-requires-clause-running
 run-requires-clause-running g c =
-    running c.args.count.now c.requires.got_in_bounds c.file_in-file.ensures c.requires.count_value c.requires.own c.trailer_in-t.ensures c.cells_told-n.ensures
+    running c.requires.got_in_bounds c.file_in-file.ensures c.requires.unwritten c.requires.own c.trailer_in-t.ensures c.cells_told-n.ensures
