@@ -1,15 +1,18 @@
 -- What the functions that look at one move answer by.
 use mathlib.Core.Path.{◌≡◌, refl, sym, ap, ◌∙◌}
+use mathlib.Core.Bool.{Bool, true, false}
 use mathlib.Core.Logic.{inl, inr, ◌≢◌}
 use mathlib.Core.List.{[], ◌∷◌}
 use Prim.Native.Nat.{ℕ, ◌+◌, ◌*◌, ◌/◌, ◌%◌, ◌≤◌, ◌<◌}
 use native.Mathlib.Nat.{mul-le-mul, add-mul, mod-lt, div-add-mod'}
 use native.Mathlib.Omega.{arith}
 use lib.Dec.{lit<, ltb}
-use lib.ListN.{get_or}
+use lib.ListN.{get_or, length}
+use Rattle.std.specs.Bool.{MatchBool}
+use Rattle.std.specs.List.{AllWithin, HoldsAt}
 use Rattle.decide.specs.Choose.{choose}
 use Rattle.decide.specs.Decides.{Decides}
-use Rattle.decide.proofs.DecideLaws.{decides_lt}
+use Rattle.decide.proofs.DecideLaws.{decides_lt, decides_yes, decides_no}
 use Rattle.method.specs.Numbers.{most_cells}
 use Rattle.method.specs.Graph.{Move, move}
 use Rattle.plan.specs.Directions.{shift_of, row_step, column_step, opposite}
@@ -203,3 +206,9 @@ byte_of p B i l = rw split (B (i / 4) (i % 4) (omega (arith, split, small)) smal
 
     small : i % 4 < 4
     small = mod-lt i (lit< tt)
+
+-- so a test of each element of the list is one of each byte
+pub bytes_by : (p : Plan) (r : Bool) → length p.bytes ≡ 4 * cells p
+    → MatchBool r (AllWithin IsByte p.bytes 0 (length p.bytes)) ((k : ℕ) × (k < length p.bytes) × HoldsAt (λ b. IsByte b → ⊥) p.bytes k) → Decides r (Bytes p)
+bytes_by p true sized h = decides_yes (λ s d ls ld. h (4 * s + d) 0 (omega arith) (omega (arith, mul-le-mul ls ld)))
+bytes_by p false sized h = decides_no (λ B. h.2 0 (byte_of p B h.0 (omega (arith, h.1))))

@@ -1,13 +1,14 @@
 -- At most one direction leads from a cell to another, and none to itself; a move that leads there at a cost is an open move of the plan's graph.
 use mathlib.Core.Path.{◌≡◌, refl, sym, ap, subst, ◌∙◌}
-use Prim.Native.Nat.{ℕ, ◌+◌, ◌/◌, ◌%◌, ◌≤◌}
+use Prim.Native.Nat.{ℕ, ◌+◌, ◌/◌, ◌%◌, ◌≤◌, ◌<◌}
 use native.Mathlib.Omega.{arith}
+use Rattle.std.specs.Prelude.{Option, Some, None, MatchOption}
 use Rattle.method.specs.Graph.{Comes}
 use Rattle.plan.specs.Directions.{opposite}
 use Rattle.plan.specs.Cells.{Stays, entered}
 use Rattle.plan.specs.Costs.{Plan, byte, IsCost}
 use Rattle.plan.specs.Grid.{graph_of}
-use Rattle.plan.specs.Toward.{Leads, Neighbours}
+use Rattle.plan.specs.Toward.{Leads, Neighbours, Toward, leading, nowhere}
 use Rattle.plan.proofs.DirectionLaws.{opposes}
 use Rattle.plan.proofs.CellLaws.{enters, stays_back, back_again, one_direction as one_step}
 use Rattle.plan.proofs.GridLaws.{into_is, into_has}
@@ -49,3 +50,10 @@ open_leads p wide {b} {k} {a} {c} i =
       },
       o.costs,
     )
+
+-- the first of the four directions that leads there
+pub toward_by : {width height a b : ℕ} (r : Option ℕ)
+    → MatchOption r ((k : ℕ) → 0 ≤ k → k < 4 → Leads width height a k b → ⊥) (λ d. (0 ≤ d) × (d < 4) × Leads width height a d b × ((k : ℕ) → 0 ≤ k → k < d → Leads width height a k b → ⊥))
+    → Toward width height a b r
+toward_by None h = nowhere (λ n. h n.direction (omega arith) n.leads.direction n.leads)
+toward_by (Some d) h = leading h.2

@@ -1,16 +1,15 @@
 -- What a function of the plan answers of one move.
-use Rattle.std.specs.Prelude.{◌≡◌, List, [], ◌∷◌, ℕ, ◌+◌, ◌*◌, ◌≤◌, ◌<◌, length}
+use Rattle.std.specs.Prelude.{◌≡◌, List, [], ◌∷◌, Option, Some, None, ℕ, ◌+◌, ◌*◌, ◌≤◌, ◌<◌, length}
 use Rattle.method.specs.Numbers.{most_cells}
 use Rattle.method.specs.Graph.{Move, move}
 use Rattle.plan.specs.declared.Reach.{Reach}
-use Rattle.plan.specs.declared.Reach.TheVariants.{Shut, To}
 use Rattle.plan.specs.declared.Spot.{Spot}
 use Rattle.plan.specs.Cells.{Stands, apart}
 
--- No open move, or the one with parent code k to (or from) cell v at cost c.
-abbrev pub listed : Reach → List Move
-listed Shut = []
-listed (To k v c) = move k v c ∷ []
+-- No open move, or the one with this parent code to (or from) this cell at this cost.
+abbrev pub listed : Option Reach → List Move
+listed None = []
+listed (Some r) = move r.code r.cell r.cost ∷ []
 
 -- Cell s stands at a spot.
 abbrev pub At : ℕ → ℕ → Spot → Type 0

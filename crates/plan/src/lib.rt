@@ -60,16 +60,7 @@ pub fn back_code(d: usize) -> u8
 pub fn is_size(width: usize, height: usize) -> bool
     ensures { Decides result (Size width height) }
 {
-    if width == 0 {
-        return false;
-    }
-    if 64 < width {
-        return false;
-    }
-    if height == 0 {
-        return false;
-    }
-    height <= 64
+    (1..=64).contains(&width) && (1..=64).contains(&height)
 }
 
 // A row and a column.
@@ -150,61 +141,48 @@ pub fn entered(width: usize, cell: usize, d: usize) -> usize
     cell + shift.row as usize * width + shift.column as usize - (width + 1)
 }
 
-// The difference of two numbers.
-fn gap(a: usize, b: usize) -> usize
-    requires { (a < 64) × (b < 64) }
-    ensures { (result ≡ apart a b) × (result < 64) }
-{
-    if a < b {
-        return b - a;
-    }
-    a - b
-}
-
 // The estimate between two spots.
 pub fn estimate(a: Spot, b: Spot) -> usize
     requires { Placed a × Placed b }
     ensures { result ≡ between a b }
 {
-    gap(a.row, b.row) + gap(a.column, b.column)
+    a.row.abs_diff(b.row) + a.column.abs_diff(b.column)
 }
 
 // Is this byte a cost, or shut?
 pub fn is_byte(b: u8) -> bool
     ensures { Decides result (IsByte b) }
 {
-    if b == 0 {
-        return false;
-    }
-    if b <= MOST_COST {
-        return true;
-    }
-    b == SHUT
+    (1..=MOST_COST).contains(&b) || b == SHUT
 }
 
-// A move, if it is open: the parent code that it gives, the cell at its other end, its cost.
+// An open move: the parent code that it gives, the cell at its other end, its cost.
 #[derive(Clone, Copy)]
-pub enum Reach {
-    Shut,
-    To(u8, usize, u8),
+pub struct Reach {
+    pub code: u8,
+    pub cell: usize,
+    pub cost: u8,
 }
 
 // The open move out of cell u in direction d. A move that would leave an obedient plan is shut, so its byte alone tells.
-pub fn move_out(width: usize, height: usize, plan: &[u8], u: usize, d: usize) -> Reach
+pub fn move_out(width: usize, height: usize, plan: &[u8], u: usize, d: usize) -> Option<Reach>
     requires obeys { Obeys (plan_of width height plan.now) }
     requires u_bound { (u < height * width) × (d < 4) }
     ensures { listed result ≡ out_by (plan_of width height plan.now) u d }
 {
     let cost = plan[4 * u + d];
     if cost == SHUT {
-        return Reach::Shut;
+        return None;
     }
-    let v = entered(width, u, d);
-    Reach::To(back_code(d), v, cost)
+    Some(Reach {
+        code: back_code(d),
+        cell: entered(width, u, d),
+        cost,
+    })
 }
 
 // The open move into cell s from its neighbour in direction d. Where there is none, the cell that the sum names has a shut move here, or is no cell.
-pub fn move_into(width: usize, height: usize, plan: &[u8], s: usize, d: usize) -> Reach
+pub fn move_into(width: usize, height: usize, plan: &[u8], s: usize, d: usize) -> Option<Reach>
     requires obeys { Obeys (plan_of width height plan.now) }
     requires s_bound { (s < height * width) × (d < 4) }
     ensures { listed result ≡ into_by (plan_of width height plan.now) s d }
@@ -212,19 +190,23 @@ pub fn move_into(width: usize, height: usize, plan: &[u8], s: usize, d: usize) -
     let shift = shift_of(d);
     let sum = s + shift.row as usize * width + shift.column as usize;
     if sum <= width {
-        return Reach::Shut;
+        return None;
     }
     let u = sum - (width + 1);
     let toward = back(d);
     let at = 4 * u + toward;
     if plan.len() <= at {
-        return Reach::Shut;
+        return None;
     }
     let cost = plan[at];
     if cost == SHUT {
-        return Reach::Shut;
+        return None;
     }
-    Reach::To((d + 1) as u8, u, cost)
+    Some(Reach {
+        code: (d + 1) as u8,
+        cell: u,
+        cost,
+    })
 }
 
 // Is the move from cell u in direction d shut if it would leave the plan?
@@ -232,10 +214,7 @@ fn edge_holds(width: usize, height: usize, plan: &[u8], u: usize, at: Spot, d: u
     requires { EdgeAsked width height plan.now u at d }
     ensures { Decides result (Edge (plan_of width height plan.now) u d) }
 {
-    if stays_in(width, height, at, d) {
-        return true;
-    }
-    plan[4 * u + d] == SHUT
+    stays_in(width, height, at, d) || plan[4 * u + d] == SHUT
 }
 
 // Is every move that would leave the plan shut? The walk is left at the first cell and direction at fault.
@@ -259,19 +238,12 @@ pub fn edges_hold(width: usize, height: usize, plan: &[u8]) -> bool
     ok
 }
 
-// Is every byte of a plan a cost or shut? The walk is left at the first byte at fault.
+// Is every byte of a plan a cost or shut?
 pub fn bytes_hold(width: usize, height: usize, plan: &[u8]) -> bool
     requires { length plan.now ≡ 4 * (height * width) }
     ensures { Decides result (Bytes (plan_of width height plan.now)) }
 {
-    let mut ok = true;
-    'bytes: for i in 0..plan.len() {
-        if !is_byte(plan[i]) {
-            ok = false;
-            break 'bytes;
-        }
-    }
-    ok
+    plan.iter().all(|b| is_byte(*b))
 }
 
 // Does the move in direction d from cell a, which stands at a spot, lead to cell b inside the plan?
@@ -280,23 +252,15 @@ fn leads_to(width: usize, height: usize, a: usize, at: Spot, d: usize, b: usize)
     requires a_bound { (a < height * width) × At width a at × (d < 4) }
     ensures { Decides result (Leads width height a d b) }
 {
-    if !stays_in(width, height, at, d) {
-        return false;
-    }
-    entered(width, a, d) == b
+    stays_in(width, height, at, d) && entered(width, a, d) == b
 }
 
-// The direction of the move inside the plan that leads from cell a to cell b, 4 if none does.
-pub fn toward(width: usize, height: usize, a: usize, b: usize) -> usize
+// The direction of the move inside the plan that leads from cell a to cell b, if one does.
+pub fn toward(width: usize, height: usize, a: usize, b: usize) -> Option<usize>
     requires size { Size width height }
     requires a_bound { a < height * width }
     ensures { Toward width height a b result }
 {
     let at = spot_of(width, a);
-    for d in 0..4 {
-        if leads_to(width, height, a, at, d, b) {
-            return d;
-        }
-    }
-    4
+    (0..4).find(|d| leads_to(width, height, a, at, *d, b))
 }

@@ -6,19 +6,19 @@ use Rattle.plan.proofs.CellLaws.{entered_sum}
 use Rattle.plan.proofs.MoveLaws.{area}
 use Rattle.plan.proofs.leads_to.Goals as goal
 
-pub returns-then-not-stays_in : goal.returns-then-not-stays_in
-returns-then-not-stays_in c = decides_no (λ l. refuted (c.stays_in.ensures _ c.requires.a_bound.1 c.requires.a_bound.0) c.if-not-stays_in.true l.stays_in)
-
 pub entered-requires-clause-width_bound : goal.entered-requires-clause-width_bound
 entered-requires-clause-width_bound c = let z = c.requires.size in
-    let m = ((c.stays_in.ensures _ c.requires.a_bound.1 c.requires.a_bound.0).so c.if-not-stays_in.false) in
+    let m = ((c.stays_in.ensures _ c.requires.a_bound.1 c.requires.a_bound.0).so c.if-stays_in.true) in
     (z.narrow, omega (arith, c.requires.a_bound.0, area z), omega (arith, entered_sum c.args.width c.args.a c.args.d z.wide m.north m.west))
 
-pub returns : goal.returns
-returns c =
+pub returns-then-stays_in : goal.returns-then-stays_in
+returns-then-stays_in c =
     decides_eq _ _ (λ e. record {
       direction = c.requires.a_bound.2;
-      stays_in = ((c.stays_in.ensures _ c.requires.a_bound.1 c.requires.a_bound.0).so c.if-not-stays_in.false);
+      stays_in = ((c.stays_in.ensures _ c.requires.a_bound.1 c.requires.a_bound.0).so c.if-stays_in.true);
       enters = sym
           c.entered.ensures ∙ e;
     }) (λ l. c.entered.ensures ∙ l.enters)
+
+pub returns-else-stays_in : goal.returns-else-stays_in
+returns-else-stays_in c = rw c.if-stays_in.false (decides_no (λ l. refuted (c.stays_in.ensures _ c.requires.a_bound.1 c.requires.a_bound.0) c.if-stays_in.false l.stays_in))

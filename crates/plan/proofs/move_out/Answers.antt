@@ -6,9 +6,9 @@ use Rattle.plan.proofs.move_out.Goals as goal
 pub returns-then-cost : goal.returns-then-cost
 returns-then-cost c = out_shut _ c.requires.obeys _ _ c.requires.u_bound.0 c.requires.u_bound.1 c.if-cost.true
 
-pub entered-v-requires-clause-width_bound : goal.entered-v-requires-clause-width_bound
-entered-v-requires-clause-width_bound c = let m = open_stays _ c.requires.obeys _ _ c.requires.u_bound.0 c.requires.u_bound.1 c.if-cost.false in
+pub entered-requires-clause-width_bound : goal.entered-requires-clause-width_bound
+entered-requires-clause-width_bound c = let m = open_stays _ c.requires.obeys _ _ c.requires.u_bound.0 c.requires.u_bound.1 c.if-cost.false in
     (c.requires.obeys.size.narrow, omega (arith, c.requires.u_bound.0, area c.requires.obeys.size), sum_long _ c.requires.obeys _ _ c.requires.u_bound.0 c.requires.u_bound.1 m)
 
 pub returns : goal.returns
-returns c = rw (c.entered-v.ensures, c.back_code.ensures) (out_open _ c.requires.obeys _ _ c.requires.u_bound.0 c.requires.u_bound.1 c.if-cost.false)
+returns c = rw (c.entered.ensures, c.back_code.ensures) (out_open _ c.requires.obeys _ _ c.requires.u_bound.0 c.requires.u_bound.1 c.if-cost.false)

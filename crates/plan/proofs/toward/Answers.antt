@@ -1,10 +1,13 @@
--- None of the directions passed leads to b; the first that does is returned.
-use native.Mathlib.Omega.{arith}
-use Rattle.plan.specs.Toward.{leading, nowhere}
+-- The first direction that leads to b, if one of the four does.
+use Rattle.std.proofs.Common.{rules, tests}
+use Rattle.std.proofs.lemmas.Iterator.{first_from_Range}
+use Rattle.decide.proofs.DecideLaws.{refuted}
+use Rattle.plan.specs.Toward.{Leads}
+use Rattle.plan.proofs.TowardLaws.{toward_by}
 use Rattle.plan.proofs.toward.Goals as goal
 
-pub returns-then-leads_to : goal.returns-then-leads_to
-returns-then-leads_to c = leading (c.leads_to.ensures.so c.if-leads_to.true)
-
 pub returns : goal.returns
-returns c = nowhere (λ n. c.loop-d.invariant.1 _ (omega (arith, n.leads.direction, c.loop-d-test.false)) n.leads)
+returns c =
+    let a = c.args in
+    toward_by c.find.result
+    (first_from_Range _ _ _ _ (λ d. Leads a.width a.height a.a d a.b) (λ d. Leads a.width a.height a.a d a.b → ⊥) c.find.ensures.ran (λ x q k. search (rules, tests)) (λ x q k. search (rules, tests, refuted)))
