@@ -2,6 +2,8 @@
 pub mod Directions
 pub mod Cells
 pub mod Costs
+pub mod Obeying
+pub mod Floors
 pub mod Grid
 pub mod Reached
 pub mod Toward

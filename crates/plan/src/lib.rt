@@ -7,6 +7,7 @@ ghost use Rattle.method.specs.Numbers.{most_cells};
 ghost use Rattle.plan.specs.Directions.{shift_of, row_step, column_step, opposite};
 ghost use Rattle.plan.specs.Cells.{Size, Stays, apart, entered as entered_by};
 ghost use Rattle.plan.specs.Costs.{IsByte, plan_of, Bytes, Edge, Edges, Obeys};
+ghost use Rattle.plan.specs.Obeying.{Obeys-prop};
 ghost use Rattle.plan.specs.Grid.{out_by, into_by};
 ghost use Rattle.plan.specs.Reached.{listed, At, Placed, EdgeAsked, between};
 ghost use Rattle.plan.specs.Toward.{Leads, Toward};
@@ -164,49 +165,54 @@ pub struct Reach {
     pub cost: u8,
 }
 
-// The open move out of cell u in direction d. A move that would leave an obedient plan is shut, so its byte alone tells.
-pub fn move_out(width: usize, height: usize, plan: &[u8], u: usize, d: usize) -> Option<Reach>
-    requires obeys { Obeys (plan_of width height plan.now) }
-    requires u_bound { (u < height * width) × (d < 4) }
-    ensures { listed result ≡ out_by (plan_of width height plan.now) u d }
-{
-    let cost = plan[4 * u + d];
-    if cost == SHUT {
-        return None;
-    }
-    Some(Reach {
-        code: back_code(d),
-        cell: entered(width, u, d),
-        cost,
-    })
+// A floor plan that obeys its rules.
+#[derive(Clone, Copy)]
+pub struct Floor<'a> {
+    pub width: usize,
+    pub height: usize,
+    pub plan: &'a [u8],
+    pub ghost obeys: { Obeys (plan_of width height plan.now) } by { Obeys-prop (plan_of width height plan.now) },
 }
 
-// The open move into cell s from its neighbour in direction d. Where there is none, the cell that the sum names has a shut move here, or is no cell.
-pub fn move_into(width: usize, height: usize, plan: &[u8], s: usize, d: usize) -> Option<Reach>
-    requires obeys { Obeys (plan_of width height plan.now) }
-    requires s_bound { (s < height * width) × (d < 4) }
-    ensures { listed result ≡ into_by (plan_of width height plan.now) s d }
-{
-    let shift = shift_of(d);
-    let sum = s + shift.row as usize * width + shift.column as usize;
-    if sum <= width {
-        return None;
+impl Floor<'_> {
+    ghost use Rattle.plan.specs.Floors.{floor_plan};
+
+    // The open move out of cell u in direction d. A move that would leave an obedient plan is shut, so its byte alone tells.
+    pub fn move_out(self, u: usize, d: usize) -> Option<Reach>
+        requires { (u < self.height * self.width) × (d < 4) }
+        ensures { listed result ≡ out_by (floor_plan self.entry) u d }
+    {
+        let cost = self.plan[4 * u + d];
+        if cost == SHUT {
+            return None;
+        }
+        Some(Reach {
+            code: back_code(d),
+            cell: entered(self.width, u, d),
+            cost,
+        })
     }
-    let u = sum - (width + 1);
-    let toward = back(d);
-    let at = 4 * u + toward;
-    if plan.len() <= at {
-        return None;
+
+    // The open move into cell s from its neighbour in direction d. Where there is none, the cell that the sum names has a shut move here, or is no cell.
+    pub fn move_into(self, s: usize, d: usize) -> Option<Reach>
+        requires { (s < self.height * self.width) × (d < 4) }
+        ensures { listed result ≡ into_by (floor_plan self.entry) s d }
+    {
+        let shift = shift_of(d);
+        let sum = s + shift.row as usize * self.width + shift.column as usize;
+        let u = sum.checked_sub(self.width + 1)?;
+        let toward = back(d);
+        let at = 4 * u + toward;
+        let cost = *self.plan.get(at)?;
+        if cost == SHUT {
+            return None;
+        }
+        Some(Reach {
+            code: (d + 1) as u8,
+            cell: u,
+            cost,
+        })
     }
-    let cost = plan[at];
-    if cost == SHUT {
-        return None;
-    }
-    Some(Reach {
-        code: (d + 1) as u8,
-        cell: u,
-        cost,
-    })
 }
 
 // Is the move from cell u in direction d shut if it would leave the plan?
