@@ -1,9 +1,25 @@
 -- The rules give one number; number 0 gives every rule, and where every rule holds the number is 0.
 use mathlib.Core.Path.{◌≡◌, refl}
+use mathlib.Core.Bool.{Bool, true, false}
 use mathlib.Core.Logic.{◌≢◌}
 use Prim.Native.Nat.{ℕ, suc}
 use native.Mathlib.Omega.{arith}
+use Rattle.decide.specs.Decides.{Decides}
 use Rattle.decide.specs.Ruled.{Ruled, fails, holds, Passed, passed}
+use Rattle.decide.proofs.DecideLaws.{refuted}
+
+-- ---- a check, test by test
+
+-- Where a rule's test fails, the number is the rule's ..
+pub broken : {P : Type 0} {n : ℕ} {rest : ℕ → Type 0} {b : Bool} → Decides b P → b ≡ false → Ruled P n rest n
+broken D e = fails (refuted D e)
+
+-- .. and where it succeeds, that of the rules after it.
+pub kept : {P : Type 0} {n : ℕ} {rest : ℕ → Type 0} {b : Bool} {k : ℕ} → Decides b P → b ≡ true → rest k → Ruled P n rest k
+kept D e r = holds (D.so e) r
+
+-- By these each return of a check is proved.
+pub ruleset in_order = (broken, kept, fails, holds, passed)
 
 -- ---- one number
 

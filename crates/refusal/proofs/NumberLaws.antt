@@ -1,0 +1,35 @@
+-- A refusal's number gives the refusal back, and is not 0.
+use mathlib.Core.Path.{◌≡◌, refl}
+use mathlib.Core.List.{[], ◌∷◌}
+use Prim.Native.Nat.{ℕ, ◌-◌, ◌<◌}
+use native.Mathlib.Omega.{arith}
+use lib.ListN.{get_or}
+use Rattle.std.specs.Prelude.{Result, Ok, Err}
+use Rattle.refusal.specs.declared.Refusal.{Refusal}
+use Rattle.refusal.specs.declared.Refusal.TheVariants.{Size, Length, Cell, Move, Cost, Tables, Room, File, CutOff}
+use Rattle.refusal.specs.Numbers.{number_of, number_in}
+
+-- The refusal that has a number ..
+abbrev pub refusal_of : ℕ → Refusal
+refusal_of number = get_or (Size ∷ Length ∷ Cell ∷ Move ∷ Cost ∷ Tables ∷ Room ∷ File ∷ []) (number - 1) CutOff
+
+-- .. is the one refused by it.
+pub refusal_is : (r : Refusal) → refusal_of (number_of r) ≡ r
+refusal_is Size = refl
+refusal_is Length = refl
+refusal_is Cell = refl
+refusal_is Move = refl
+refusal_is Cost = refl
+refusal_is Tables = refl
+refusal_is Room = refl
+refusal_is File = refl
+refusal_is CutOff = refl
+
+-- Every number is above 0 ..
+pub numbered : (r : Refusal) → 0 < number_of r
+numbered r = grind arith
+
+-- .. so a result with number 0 is done.
+pub not_refused : {A : Type 0} (r : Result A Refusal) → number_in r ≡ 0 → (x : A) × (r ≡ Ok x)
+not_refused (Ok x) e = (x, refl)
+not_refused (Err r) e = absurd (omega (arith, numbered r, e))
