@@ -1,6 +1,7 @@
 -- Inner notions, not part of the queue's promise: what its private functions promise each other while one cell is on its way to its place.
 -- The cell is in hand and a place of the list is empty. The tables are read as if it stood there: `set place cell i` and `set list i cell`.
 use Rattle.std.specs.Prelude.{◌≡◌, Bool, false, List, ℕ, ◌+◌, ◌*◌, ◌≤◌, ◌<◌, get_or, set, length}
+use Rattle.queue.specs.declared.Queue.{Queue}
 use Rattle.queue.specs.Order.{before}
 use Rattle.queue.specs.Queue.{absent, members, Tables, Under, Ordered}
 
@@ -78,3 +79,27 @@ pub record Lesser (lt : ℕ → ℕ → Bool) (count i m : ℕ) (list : List ℕ
   pub under : Under i m
   pub inside : m < count
   pub least : (y : ℕ) → Under i y → y < count → lt (get_or list y 0) (get_or list m 0) ≡ false
+
+-- ---- of a Queue, in its fields
+
+-- The cell is in hand and place i of the list is empty.
+abbrev pub HeldIn : Queue → (cell i : ℕ) → Type 0
+HeldIn q cell i = Held q.width (length q.list.now) q.count cell i q.k1.now q.k2.now q.place.now q.list.now
+
+-- With the cell at place i the list is a binary heap, but that the cell may belong higher or lower; or lower only.
+abbrev pub LooseIn : Queue → (cell i : ℕ) → Type 0
+LooseIn q cell i = Loose (before q.width q.k1.now q.k2.now) q.count i (set q.list.now i cell)
+
+abbrev pub LowIn : Queue → (cell i : ℕ) → Type 0
+LowIn q cell i = Low (before q.width q.k1.now q.k2.now) q.count i (set q.list.now i cell)
+
+-- Carrying the cell leaves the keys, with the width and the count.
+pub record KeysStay (q q' : Queue) : Type 0 where
+  pub width : q'.width ≡ q.width
+  pub count : q'.count ≡ q.count
+  pub first : q'.k1.now ≡ q.k1.now
+  pub second : q'.k2.now ≡ q.k2.now
+
+-- What is left of q when the empty place has gone from `start` to i.
+abbrev pub SiftedIn : Queue → Queue → (cell start i : ℕ) → ((ℕ → ℕ → Bool) → List ℕ → Type 0) → Type 0
+SiftedIn q q' cell start i P = Sifted q.width q.count cell start i q.k1.now q.k2.now q.place.now q.list.now q'.place.now q'.list.now P

@@ -7,9 +7,10 @@ ghost use Rattle.std.specs.Prelude.{◌≡◌, true, false, ◌+◌, ◌<◌, �
 ghost use Rattle.decide.specs.Decides.{Decides};
 ghost use Rattle.decide.specs.Order.{less_or, column_first};
 ghost use Rattle.queue.specs.Order.{before};
-ghost use Rattle.queue.specs.Queue.{absent, Ordered, Heap, Changed, EntryKept, LeastOf};
+ghost use Rattle.queue.specs.Queue.{absent, Ordered, LeastOf};
+ghost use Rattle.queue.specs.Lent.{SameTables, HeapIn, ChangedIn, EntryKeptIn};
 ghost use Rattle.queue.specs.Rules.{EntryRule, AbsentRule, QueuedRule, Lengths};
-ghost use Rattle.queue.specs.Sift.{Loose, Low, Risen, Held, Sifted, Stands, Keyed, KeyOf, Compares, Lesser};
+ghost use Rattle.queue.specs.Sift.{Risen, Stands, Keyed, KeyOf, Compares, Lesser, HeldIn, LooseIn, LowIn, KeysStay, SiftedIn};
 
 // The place of a cell that is not queued, and the content of an unused place of the list.
 pub const ABSENT: u16 = 65535;
@@ -81,37 +82,6 @@ fn stand(place: &mut [u16], list: &mut [u16], i: usize, cell: usize)
     place[cell] = i as u16;
 }
 
-// With a cell in hand and place `start` of the list empty, the empty place goes up as long as the cell comes before the entry above it.
-// Each entry passed is written once. Returns the place where the cell belongs, or from where it belongs lower.
-fn sift_up(
-    width: usize,
-    k1: &[u32],
-    k2: &[u32],
-    place: &mut [u16],
-    list: &mut [u16],
-    count: usize,
-    start: usize,
-    cell: usize,
-) -> usize
-    requires held { Held width (length list.old) count cell start k1.now k2.now place.old list.old }
-    requires loose { Loose (before width k1.now k2.now) count start (set list.old start cell) }
-    ensures { Sifted width count cell start result k1.now k2.now place.old list.old place.new list.new (λ lt l. Risen lt count start result l) }
-{
-    let key = key_of(k1, k2, cell);
-    let mut i = start;
-    while 0 < i {
-        let above = (i - 1) / 2;
-        let upper = wide(list[above]);
-        let upper_key = key_of(k1, k2, upper);
-        if !key_before(width, key, cell, upper_key, upper) {
-            return i;
-        }
-        stand(place, list, i, upper);
-        i = above;
-    }
-    i
-}
-
 // The place of the lesser entry right under place i, which has one there.
 fn lesser_under(width: usize, k1: &[u32], k2: &[u32], list: &[u16], count: usize, i: usize) -> usize
     requires compares { Compares width count i k1.now k2.now list.now }
@@ -132,140 +102,154 @@ fn lesser_under(width: usize, k1: &[u32], k2: &[u32], list: &[u16], count: usize
     left
 }
 
-// The empty place goes down as long as an entry right under it comes before the cell in hand. Returns the place where the cell belongs.
-fn sift_down(
-    width: usize,
-    k1: &[u32],
-    k2: &[u32],
-    place: &mut [u16],
-    list: &mut [u16],
-    count: usize,
-    start: usize,
-    cell: usize,
-) -> usize
-    requires held { Held width (length list.old) count cell start k1.now k2.now place.old list.old }
-    requires low { Low (before width k1.now k2.now) count start (set list.old start cell) }
-    ensures { Sifted width count cell start result k1.now k2.now place.old list.old place.new list.new (λ lt l. Ordered lt count l) }
-{
-    let key = key_of(k1, k2, cell);
-    let mut i = start;
-    while i + i + 1 < count {
-        let under = lesser_under(width, k1, k2, list, count, i);
-        let lesser = wide(list[under]);
-        let lesser_key = key_of(k1, k2, lesser);
-        if !key_before(width, lesser_key, lesser, key, cell) {
-            return i;
+// The queue in tables that the caller lends: each cell's two key numbers and its place, and the list, whose first `count` places are used.
+#[derive(Drop)]
+pub struct Queue<'a> {
+    pub width: usize,
+    pub k1: &'a mut [u32],
+    pub k2: &'a mut [u32],
+    pub place: &'a mut [u16],
+    pub list: &'a mut [u16],
+    pub count: usize,
+}
+
+impl<'a> Queue<'a> {
+    // With a cell in hand and place `start` of the list empty, the empty place goes up as long as the cell comes before the entry above it.
+    // Each entry passed is written once. Returns the place where the cell belongs, or from where it belongs lower.
+    fn sift_up(&mut self, start: usize, cell: usize) -> usize
+        requires held { HeldIn self.old cell start }
+        requires loose { LooseIn self.old cell start }
+        ensures same_tables { SameTables self.old self.new }
+        ensures keys_stay { KeysStay self.old self.new }
+        ensures sifted { SiftedIn self.old self.new cell start result (λ lt l. Risen lt self.old.count start result l) }
+    {
+        let width = self.width;
+        let k1 = &mut *self.k1;
+        let k2 = &mut *self.k2;
+        let place = &mut *self.place;
+        let list = &mut *self.list;
+        let key = key_of(k1, k2, cell);
+        let mut i = start;
+        while 0 < i {
+            let above = (i - 1) / 2;
+            let upper = wide(list[above]);
+            let upper_key = key_of(k1, k2, upper);
+            if !key_before(width, key, cell, upper_key, upper) {
+                return i;
+            }
+            stand(place, list, i, upper);
+            i = above;
         }
-        stand(place, list, i, lesser);
-        i = under;
+        i
     }
-    i
-}
 
-// The place where the cell in hand belongs, be it higher or lower than the empty place i. The cell is not written there yet.
-// A cell that went up comes before all that it passed, so it does not go down again.
-fn settle(
-    width: usize,
-    k1: &[u32],
-    k2: &[u32],
-    place: &mut [u16],
-    list: &mut [u16],
-    count: usize,
-    i: usize,
-    cell: usize,
-) -> usize
-    requires held { Held width (length list.old) count cell i k1.now k2.now place.old list.old }
-    requires loose { Loose (before width k1.now k2.now) count i (set list.old i cell) }
-    ensures { Sifted width count cell i result k1.now k2.now place.old list.old place.new list.new (λ lt l. Ordered lt count l) }
-{
-    let j = sift_up(width, k1, k2, place, list, count, i, cell);
-    if j != i {
-        return j;
+    // The empty place goes down as long as an entry right under it comes before the cell in hand. Returns the place where the cell belongs.
+    fn sift_down(&mut self, start: usize, cell: usize) -> usize
+        requires held { HeldIn self.old cell start }
+        requires low { LowIn self.old cell start }
+        ensures same_tables { SameTables self.old self.new }
+        ensures keys_stay { KeysStay self.old self.new }
+        ensures sifted { SiftedIn self.old self.new cell start result (λ lt l. Ordered lt self.old.count l) }
+    {
+        let width = self.width;
+        let count = self.count;
+        let k1 = &mut *self.k1;
+        let k2 = &mut *self.k2;
+        let place = &mut *self.place;
+        let list = &mut *self.list;
+        let key = key_of(k1, k2, cell);
+        let mut i = start;
+        while i + i + 1 < count {
+            let under = lesser_under(width, k1, k2, list, count, i);
+            let lesser = wide(list[under]);
+            let lesser_key = key_of(k1, k2, lesser);
+            if !key_before(width, lesser_key, lesser, key, cell) {
+                return i;
+            }
+            stand(place, list, i, lesser);
+            i = under;
+        }
+        i
     }
-    sift_down(width, k1, k2, place, list, count, j, cell)
-}
 
-// Puts a cell that is not queued into the queue under the key (first, second): from the end of the list it can go up only. Returns the new count.
-pub fn put_in(
-    width: usize,
-    k1: &mut [u32],
-    k2: &mut [u32],
-    place: &mut [u16],
-    list: &mut [u16],
-    count: usize,
-    cell: usize,
-    first: u32,
-    second: u32,
-) -> usize
-    requires heap { Heap width (length list.old) count k1.old k2.old place.old list.old }
-    requires cell_in_bounds { cell < length list.old }
-    requires not_queued { get_or place.old cell 0 ≡ absent }
-    ensures value { result ≡ count + 1 }
-    ensures changed { Changed width (length list.old) result cell first second true k1.old k2.old place.old k1.new k2.new place.new list.new }
-{
-    k1[cell] = first;
-    k2[cell] = second;
-    let i = sift_up(width, k1, k2, place, list, count + 1, count, cell);
-    stand(place, list, i, cell);
-    count + 1
-}
-
-// Puts a queued cell under another key, (first, second). Where it stays in its place, list and places stay as they are.
-pub fn put_under(
-    width: usize,
-    k1: &mut [u32],
-    k2: &mut [u32],
-    place: &mut [u16],
-    list: &mut [u16],
-    count: usize,
-    cell: usize,
-    first: u32,
-    second: u32,
-)
-    requires heap { Heap width (length list.old) count k1.old k2.old place.old list.old }
-    requires cell_in_bounds { cell < length list.old }
-    requires queued { get_or place.old cell 0 ≡ absent → ⊥ }
-    ensures changed { Changed width (length list.old) count cell first second true k1.old k2.old place.old k1.new k2.new place.new list.new }
-    ensures entry_kept { EntryKept count k1.old k2.old place.old list.old count k1.new k2.new place.new list.new }
-{
-    let i = wide(place[cell]);
-    k1[cell] = first;
-    k2[cell] = second;
-    let j = settle(width, k1, k2, place, list, count, i, cell);
-    if j != i {
-        stand(place, list, j, cell);
+    // The place where the cell in hand belongs, be it higher or lower than the empty place i. The cell is not written there yet.
+    // A cell that went up comes before all that it passed, so it does not go down again.
+    fn settle(&mut self, i: usize, cell: usize) -> usize
+        requires held { HeldIn self.old cell i }
+        requires loose { LooseIn self.old cell i }
+        ensures same_tables { SameTables self.old self.new }
+        ensures keys_stay { KeysStay self.old self.new }
+        ensures sifted { SiftedIn self.old self.new cell i result (λ lt l. Ordered lt self.old.count l) }
+    {
+        let j = self.sift_up(i, cell);
+        if j != i {
+            return j;
+        }
+        self.sift_down(j, cell)
     }
-}
 
-// Takes a queued cell out of the queue: the last entry of the list takes its place and is settled there. Returns the new count.
-pub fn take_out(
-    width: usize,
-    k1: &mut [u32],
-    k2: &mut [u32],
-    place: &mut [u16],
-    list: &mut [u16],
-    count: usize,
-    cell: usize,
-) -> usize
-    requires heap { Heap width (length list.old) count k1.old k2.old place.old list.old }
-    requires cell_in_bounds { cell < length list.old }
-    requires queued { get_or place.old cell 0 ≡ absent → ⊥ }
-    ensures result_value { result + 1 ≡ count }
-    ensures changed { Changed width (length list.old) result cell 0 0 false k1.old k2.old place.old k1.new k2.new place.new list.new }
-{
-    let i = wide(place[cell]);
-    let last = count - 1;
-    let moved = wide(list[last]);
-    k1[cell] = 0;
-    k2[cell] = 0;
-    place[cell] = ABSENT;
-    list[last] = ABSENT;
-    if last <= i {
-        return last;
+    // Puts a cell that is not queued into the queue under the key (first, second): from the end of the list it can go up only.
+    pub fn put_in(&mut self, cell: usize, first: u32, second: u32)
+        requires heap { HeapIn self.old }
+        requires cell_in_bounds { cell < length self.old.list.now }
+        requires not_queued { get_or self.old.place.now cell 0 ≡ absent }
+        ensures same_tables { SameTables self.old self.new }
+        ensures width { self.new.width ≡ self.old.width }
+        ensures count { self.new.count ≡ self.old.count + 1 }
+        ensures changed { ChangedIn self.old self.new cell first second true }
+    {
+        self.k1[cell] = first;
+        self.k2[cell] = second;
+        let last = self.count;
+        self.count = last + 1;
+        let i = self.sift_up(last, cell);
+        stand(&mut *self.place, &mut *self.list, i, cell);
     }
-    let j = settle(width, k1, k2, place, list, last, i, moved);
-    stand(place, list, j, moved);
-    last
+
+    // Puts a queued cell under another key, (first, second). Where it stays in its place, list and places stay as they are.
+    pub fn put_under(&mut self, cell: usize, first: u32, second: u32)
+        requires heap { HeapIn self.old }
+        requires cell_in_bounds { cell < length self.old.list.now }
+        requires queued { get_or self.old.place.now cell 0 ≡ absent → ⊥ }
+        ensures same_tables { SameTables self.old self.new }
+        ensures width { self.new.width ≡ self.old.width }
+        ensures count { self.new.count ≡ self.old.count }
+        ensures changed { ChangedIn self.old self.new cell first second true }
+        ensures entry_kept { EntryKeptIn self.old self.new }
+    {
+        let i = wide(self.place[cell]);
+        self.k1[cell] = first;
+        self.k2[cell] = second;
+        let j = self.settle(i, cell);
+        if j != i {
+            stand(&mut *self.place, &mut *self.list, j, cell);
+        }
+    }
+
+    // Takes a queued cell out of the queue: the last entry of the list takes its place and is settled there.
+    pub fn take_out(&mut self, cell: usize)
+        requires heap { HeapIn self.old }
+        requires cell_in_bounds { cell < length self.old.list.now }
+        requires queued { get_or self.old.place.now cell 0 ≡ absent → ⊥ }
+        ensures same_tables { SameTables self.old self.new }
+        ensures width { self.new.width ≡ self.old.width }
+        ensures count { self.new.count + 1 ≡ self.old.count }
+        ensures changed { ChangedIn self.old self.new cell 0 0 false }
+    {
+        let i = wide(self.place[cell]);
+        let last = self.count - 1;
+        let moved = wide(self.list[last]);
+        self.count = last;
+        self.k1[cell] = 0;
+        self.k2[cell] = 0;
+        self.place[cell] = ABSENT;
+        self.list[last] = ABSENT;
+        if last <= i {
+            return;
+        }
+        let j = self.settle(i, moved);
+        stand(&mut *self.place, &mut *self.list, j, moved);
+    }
 }
 
 // The least cell of a queue, the first of its list; 65,535 where the queue is empty.

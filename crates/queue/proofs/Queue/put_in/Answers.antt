@@ -5,7 +5,7 @@ use Rattle.queue.proofs.OrderLaws.{before_order}
 use Rattle.queue.proofs.SiftLaws.{reshaped}
 use Rattle.queue.proofs.HoleLaws.{risen_last}
 use Rattle.queue.proofs.CallLaws.{put_in_loose, put_in_members, stood}
-use Rattle.queue.proofs.put_in.Goals as goal
+use Rattle.queue.proofs.Queue.put_in.Goals as goal
 
 pub sift_up-i-requires-clause-held : goal.sift_up-i-requires-clause-held
 sift_up-i-requires-clause-held c = (put_in_loose c.requires.heap c.requires.cell_in_bounds c.requires.not_queued _ _).0
@@ -14,6 +14,7 @@ pub sift_up-i-requires-clause-loose : goal.sift_up-i-requires-clause-loose
 sift_up-i-requires-clause-loose c = (put_in_loose c.requires.heap c.requires.cell_in_bounds c.requires.not_queued _ _).1
 
 pub returns-clause-changed : goal.returns-clause-changed
-returns-clause-changed c = let settled = reshaped c.sift_up-i.ensures (risen_last (before_order _ _ _) refl c.sift_up-i.ensures.shape) in
-    stood c.requires.heap c.requires.cell_in_bounds (λ z. absurd (never refl z)) settled refl (put_in_members c.requires.heap c.requires.cell_in_bounds c.requires.not_queued)
-    c.stand.ensures.place_after c.stand.ensures.list_after
+returns-clause-changed c = let settled = reshaped c.sift_up-i.ensures.sifted (risen_last (before_order _ _ _) refl c.sift_up-i.ensures.sifted.shape) in
+    let stay = c.sift_up-i.ensures.keys_stay in
+    rw (stay.count, stay.first, stay.second) (stood c.requires.heap c.requires.cell_in_bounds (λ z. absurd (never refl z)) settled refl (put_in_members c.requires.heap c.requires.cell_in_bounds c.requires.not_queued)
+    c.stand.ensures.place_after c.stand.ensures.list_after)

@@ -5,7 +5,7 @@ use Rattle.queue.proofs.OrderLaws.{before_order}
 use Rattle.queue.proofs.HeapLaws.{keep_more, above, above_inside, stay_first, stay_under}
 use Rattle.queue.proofs.SiftLaws.{reshaped}
 use Rattle.queue.proofs.HoleLaws.{own_key, other_key, first_before, may_pass, passed, rises, risen}
-use Rattle.queue.proofs.sift_up.Goals as goal
+use Rattle.queue.proofs.Queue.sift_up.Goals as goal
 
 pub key_of-key-requires : goal.key_of-key-requires
 key_of-key-requires c = own_key c.requires.held
@@ -15,8 +15,8 @@ key_of-upper_key-requires c = let l = c.loop-i.invariant in
     let u = above c.loop-i-test.true in
     other_key l.held (above_inside u l.held.inside) (λ e. omega (arith, u.low)) c.wide-upper.ensures
 
-pub returns-then-not-key_before : goal.returns-then-not-key_before
-returns-then-not-key_before c = let l = c.loop-i.invariant in
+pub returns-then-not-key_before-clause-sifted : goal.returns-then-not-key_before-clause-sifted
+returns-then-not-key_before-clause-sifted c = let l = c.loop-i.invariant in
     let u = above c.loop-i-test.true in
     reshaped l (risen (before_order _ _ _) l.shape (stay_under (before_order _ _ _) l.shape.loose u
     ((let u = above c.loop-i-test.true in first_before c.loop-i.invariant.held (above_inside u c.loop-i.invariant.held.inside) (λ e. omega (arith, u.low)) c.wide-upper.ensures
@@ -42,6 +42,6 @@ loop-i-preserved c = let l = c.loop-i.invariant in
       unmoved = λ q. absurd (omega (arith, u.low, l.shape.higher));
     }
 
-pub returns : goal.returns
-returns c = let l = c.loop-i.invariant in
+pub returns-clause-sifted : goal.returns-clause-sifted
+returns-clause-sifted c = let l = c.loop-i.invariant in
     reshaped l (risen (before_order _ _ _) l.shape (stay_first (before_order _ _ _) (omega arith) l.shape.loose))

@@ -2,7 +2,7 @@
 use mathlib.Core.Path.{refl}
 use Rattle.queue.proofs.HoleLaws.{long_list, held_own}
 use Rattle.queue.proofs.CallLaws.{last_out, take_out_loose, take_out_members, stood}
-use Rattle.queue.proofs.take_out.Goals as goal
+use Rattle.queue.proofs.Queue.take_out.Goals as goal
 
 pub returns-then-last-i-clause-changed : goal.returns-then-last-i-clause-changed
 returns-then-last-i-clause-changed c = last_out c.requires.heap c.requires.cell_in_bounds c.requires.queued c.wide-i.ensures c.if-last-i.true
@@ -15,6 +15,7 @@ settle-j-requires-clause-loose c = let l = (take_out_loose c.requires.heap c.req
 
 pub returns-clause-changed : goal.returns-clause-changed
 returns-clause-changed c = let members = take_out_members c.requires.heap c.requires.cell_in_bounds c.requires.queued c.wide-i.ensures c.if-last-i.false c.wide-moved.ensures in
-    stood c.requires.heap c.requires.cell_in_bounds (λ z. (refl, refl)) c.settle-j.ensures (long_list
+    let stay = c.settle-j.ensures.keys_stay in
+    rw (stay.count, stay.first, stay.second) (stood c.requires.heap c.requires.cell_in_bounds (λ z. (refl, refl)) c.settle-j.ensures.sifted (long_list
     (take_out_loose c.requires.heap c.requires.cell_in_bounds c.requires.queued c.wide-i.ensures c.if-last-i.false c.wide-moved.ensures).0) members c.stand.ensures.place_after
-    c.stand.ensures.list_after
+    c.stand.ensures.list_after)

@@ -5,10 +5,10 @@ use Rattle.queue.proofs.OrderLaws.{before_order}
 use Rattle.queue.proofs.HeapLaws.{keep_more, sink, stay_over}
 use Rattle.queue.proofs.SiftLaws.{reshaped}
 use Rattle.queue.proofs.HoleLaws.{second_before, may_pass, passed, lesser_meant}
-use Rattle.queue.proofs.sift_down.Goals as goal
+use Rattle.queue.proofs.Queue.sift_down.Goals as goal
 
-pub returns-then-not-key_before : goal.returns-then-not-key_before
-returns-then-not-key_before c = let l = c.loop-i.invariant in
+pub returns-then-not-key_before-clause-sifted : goal.returns-then-not-key_before-clause-sifted
+returns-then-not-key_before-clause-sifted c = let l = c.loop-i.invariant in
     reshaped l (stay_over (before_order _ _ _) l.shape.0 (lesser_meant _ c.lesser_under-under.ensures)
     ((second_before c.loop-i.invariant.held c.lesser_under-under.ensures.inside (λ e. omega (arith, c.lesser_under-under.ensures.under.low)) c.wide-lesser.ensures (c.key_of-key.ensures)
     c.key_of-lesser_key.ensures c.key_before.ensures) ∙ c.if-not-key_before.true))
