@@ -22,7 +22,7 @@ use Rattle.tables.specs.Lent.{tables, core}
 use Rattle.tables.proofs.WalkLaws.{estimate_at}
 use Rattle.entries.specs.declared.Aim.{Aim}
 use Rattle.entries.specs.Aims.{area, hunt}
-use Rattle.entries.specs.Became.{Sited, KeyFits, Entering, Entered}
+use Rattle.entries.specs.Became.{Became, Sited, KeyFits, Entering}
 
 -- The target's spot.
 abbrev pub goal_spot : Aim → Spot
@@ -46,6 +46,12 @@ module _ {a : Aim} {cell : ℕ} {at : Spot} {g rhs : List ℕ} (S : Sited a cell
       → (plan : List ℕ) → method.first_key (hunt a plan) cell m ≡ first
   first_key_is {m} f em ef plan = first_finite (hunt a plan) cell m (omega (arith, f, em)) ∙ omega (arith, ef, estimate_at {b = goal_spot a} S.stands S.target_at)
 
+-- An entry was set right, whatever the plan and the parents are.
+abbrev pub EntryRight : Aim → ℕ → List ℕ → List ℕ → List ℕ → List ℕ → List ℕ → List ℕ → ℕ → List ℕ → List ℕ → List ℕ → List ℕ → Type 0
+EntryRight a cell g rhs k1 k2 place list count k1' k2' place' list' =
+    (plan parent : List ℕ) → Became a count (tables plan g rhs parent k1' k2' place' list')
+    (method.set_right (hunt a plan) (core (tables plan g rhs parent k1 k2 place list)) cell)
+
 module _ {a : Aim} {count cell : ℕ} {at : Spot} {g rhs k1 k2 place list : List ℕ} (E : Entering a count cell at g rhs k1 k2 place list) where
   place_long : cell < length place
   place_long = omega (arith, E.sited.inside, E.heap.tables.agree.length_place)
@@ -61,7 +67,7 @@ module _ {a : Aim} {count cell : ℕ} {at : Spot} {g rhs k1 k2 place list : List
   entered_by : {room r first second : ℕ} {q : Bool} {k1' k2' place' list' : List ℕ} → room ≡ area a
       → Changed a.width room r cell first second q k1 k2 place k1' k2' place' list'
       → ((plan parent : List ℕ) → method.with_entry (core (tables plan g rhs parent k1 k2 place list)) cell first second q ≡ method.set_right (hunt a plan) (core (tables plan g rhs parent k1 k2 place list)) cell)
-      → Entered a cell g rhs k1 k2 place list r k1' k2' place' list'
+      → EntryRight a cell g rhs k1 k2 place list r k1' k2' place' list'
   entered_by e C f plan parent = record { is = rw (C.key1, C.key2, C.membership) (f plan parent); heap = heap_as C.heap e refl }
 
   -- a cell that is put in or taken out: its entry is not what it was
@@ -81,11 +87,11 @@ module _ {a : Aim} {count cell : ℕ} {at : Spot} {g rhs k1 k2 place list : List
     unfolding method.set_right
     leaves plan parent = sym (choose_yes (ℕ_discrete (get_or g cell 0) (get_or rhs cell 0)) _ _ e)
 
-    pub right_absent : get_or place cell 0 ≡ absent → Entered a cell g rhs k1 k2 place list count k1 k2 place list
+    pub right_absent : get_or place cell 0 ≡ absent → EntryRight a cell g rhs k1 k2 place list count k1 k2 place list
     right_absent o = entered_by refl (absent_stays E.heap E.sited.inside o) leaves
 
     pub right_out : {r : ℕ} {k1' k2' place' list' : List ℕ} → Changed a.width (length list) r cell 0 0 false k1 k2 place k1' k2' place' list'
-        → Entered a cell g rhs k1 k2 place list r k1' k2' place' list'
+        → EntryRight a cell g rhs k1 k2 place list r k1' k2' place' list'
     right_out C = entered_by E.heap.tables.agree.length_list C leaves
 
   -- g and rhs differ: the cell is to be queued under its key
@@ -98,5 +104,5 @@ module _ {a : Aim} {count cell : ℕ} {at : Spot} {g rhs k1 k2 place list : List
     enters plan parent = rw (← first_is plan, em) (sym (choose_no (ℕ_discrete (get_or g cell 0) (get_or rhs cell 0)) _ _ n))
 
     pub right_in : {r : ℕ} {k1' k2' place' list' : List ℕ} → Changed a.width (length list) r cell first m true k1 k2 place k1' k2' place' list'
-        → Entered a cell g rhs k1 k2 place list r k1' k2' place' list'
+        → EntryRight a cell g rhs k1 k2 place list r k1' k2' place' list'
     right_in C = entered_by E.heap.tables.agree.length_list C enters

@@ -2,6 +2,7 @@
 use mathlib.Core.Path.{◌≡◌, sym, ap, subst, ◌∙◌}
 use mathlib.Core.Logic.{◌⊎◌, inl, inr, ⊎_elim, ◌≢◌}
 use mathlib.Core.List.{List}
+use Rattle.std.proofs.Common.{Some}
 use Prim.Native.Nat.{ℕ, ◌+◌, ◌≤◌, ◌<◌, min}
 use native.Mathlib.Omega.{arith}
 use native.Mathlib.Decide.{ℕ_discrete}
@@ -13,11 +14,11 @@ use Rattle.method.specs.Tables as method
 use Rattle.method.proofs.LeastSums.{anew_least}
 use Rattle.plan.specs.Costs.{Obeys}
 use Rattle.plan.specs.declared.Spot.{Spot}
-use Rattle.tables.specs.Lent.{Tables, Frame, tables, floor_in, graph_in}
+use Rattle.tables.specs.declared.Ahead.{Ahead}
+use Rattle.tables.specs.Lent.{Tables, Frame, tables, lent, floor_in, graph_in}
 use Rattle.tables.proofs.FrameLaws.{graph_in_laws}
 use Rattle.entries.specs.declared.Aim.{Aim}
 use Rattle.entries.specs.declared.Found.{Found}
-use Rattle.entries.specs.declared.Asked.TheVariants.{Takes}
 use Rattle.entries.specs.Aims.{area, frame_of, hunt, most_g, most_rhs, most_km, Small, Findable, Ready, ReadyAt}
 use Rattle.entries.specs.Became.{Became, Sited, Entering, obeyed, Taking, found_of}
 
@@ -106,19 +107,19 @@ ready_set {cell = cell} {rhs = rhs} {parent = parent} r p S h =
     }
 
 -- .. so the cell can take it.
-pub taking : {a : Aim} {count cell : ℕ} {at : Spot} {f : Found} {plan g rhs parent k1 k2 place list : List ℕ} → ReadyAt a most_rhs count cell at (tables plan g rhs parent k1 k2 place list)
-    → (f.rhs ≡ infinite) ⊎ (f.rhs ≤ most_rhs) → Taking a count cell at f g rhs parent k1 k2 place list
+pub taking : {a : Aim} {count cell : ℕ} {at : Spot} {f : Found} {plan g : List ℕ} {t : Ahead} → ReadyAt a most_rhs count cell at (lent plan g t)
+    → (f.rhs ≡ infinite) ⊎ (f.rhs ≤ most_rhs) → Taking a count cell at f g t
 taking {f = f} S h = record { entering = entering (ready_set f.rhs f.parent S h); long_parent = S.ready.held.sized.parent }
 
-pub rhs_long : {a : Aim} {count cell : ℕ} {at : Spot} {f : Found} {g rhs parent k1 k2 place list : List ℕ} → Taking a count cell at f g rhs parent k1 k2 place list → cell < length rhs
-rhs_long {cell = cell} {f = f} {rhs = rhs} T = omega (arith, T.entering.sited.inside, T.entering.sited.long_rhs, length-set rhs cell f.rhs)
+pub rhs_long : {a : Aim} {count cell : ℕ} {at : Spot} {f : Found} {g : List ℕ} {t : Ahead} → Taking a count cell at f g t → cell < length t.rhs.now
+rhs_long {cell = cell} {f = f} {t = t} T = omega (arith, T.entering.sited.inside, T.entering.sited.long_rhs, length-set t.rhs.now cell f.rhs)
 
 pub became_as : {a : Aim} {count : ℕ} {t : Tables} {m m' : method.Tables} → Became a count t m → m ≡ m' → Became a count t m'
 became_as B e = record { is = B.is ∙ e; heap = B.heap }
 
 -- A cell found anew takes what `anew` answered.
 pub anew_is : (a : Aim) {f : Found} (plan : List ℕ) (T : method.Tables) (cell : ℕ) → found_of f ≡ method.anew (graph_in (frame_of a) plan) T.g cell
-    → obeyed (hunt a plan) T (Takes cell f) ≡ method.found_anew (hunt a plan) T cell
+    → obeyed (hunt a plan) T (Some (record { cell = cell; found = f })) ≡ method.found_anew (hunt a plan) T cell
 unfolding method.found_anew
 anew_is a plan T cell e = ap (λ x. method.set_right (hunt a plan) (method.with_rhs T cell x.sum x.code) cell) e
 

@@ -2,8 +2,8 @@
 use mathlib.Core.Path.{◌≡◌, refl, sym, ap, ◌∙◌}
 use mathlib.Core.Bool.{Bool, true, false}
 use mathlib.Core.Logic.{◌⊎◌, inl, inr}
-use mathlib.Core.List.{List, [], ◌∷◌}
-use Prim.Native.Nat.{ℕ, zero, suc, ◌+◌, ◌≤◌, ◌<◌}
+use mathlib.Core.List.{List, ◌∷◌}
+use Prim.Native.Nat.{ℕ, zero, suc, ◌≤◌, ◌<◌}
 use native.Mathlib.Omega.{arith}
 use native.Mathlib.Decide.{ℕ_discrete}
 use lib.ListN.{length, get_or, set, replicate, length-replicate, get_or-replicate, length-set}
@@ -19,41 +19,11 @@ use Rattle.queue.proofs.QueueLaws.{empty_heap}
 use Rattle.plan.specs.Reached.{At}
 use Rattle.plan.specs.declared.Spot.{Spot}
 use Rattle.plan.proofs.MoveLaws as moves
-use Rattle.tables.specs.Lent.{tables, Fits, graph_in, core}
+use Rattle.tables.specs.Lent.{Tables, tables, Fits, graph_in, core}
 use Rattle.entries.specs.declared.Aim.{Aim}
 use Rattle.entries.specs.Aims.{area, frame_of, hunt, Aimed, Small}
-use Rattle.entries.specs.Became.{Became, Entering, Entered}
+use Rattle.entries.specs.Became.{Became, Entering}
 use Rattle.entries.proofs.FoundLaws.{entering, ready_set}
-
--- ---- a table filled from the front
-
--- The first i numbers of xs are v, where it was xs₀ before.
-pub record Filled (xs₀ : List ℕ) (v i : ℕ) (xs : List ℕ) : Type 0 where
-  pub few : i ≤ length xs₀
-  pub same : length xs ≡ length xs₀
-  pub done : (k : ℕ) → k < i → get_or xs k 0 ≡ v
-
-pub filled_none : (xs : List ℕ) (v : ℕ) → Filled xs v 0 xs
-filled_none xs v = record { few = omega arith; same = refl; done = λ k l. absurd (omega arith) }
-
-pub filled_more : {xs₀ xs : List ℕ} {v i : ℕ} → Filled xs₀ v i xs → i < length xs₀ → Filled xs₀ v (i + 1) (set xs i v)
-filled_more {xs₀} {xs} {v} {i} F l = record { few = omega arith; same = length-set xs i v ∙ F.same; done = λ k h. at k h (ℕ_discrete k i) }
-  where
-    at : (k : ℕ) → k < i + 1 → Dec (k ≡ i) → get_or (set xs i v) k 0 ≡ v
-    at k h (yes e) = rw e (get_or-set_same xs i v 0 (omega (arith, F.same)))
-    at k h (no n) = get_or-set_other xs i k v 0 n ∙ F.done k (omega arith)
-
-all_equal : (l : List ℕ) (n v : ℕ) → length l ≡ n → ((k : ℕ) → k < n → get_or l k 0 ≡ v) → l ≡ replicate n v
-all_equal [] zero v e f = refl
-all_equal [] (suc n) v e f = absurd (omega arith)
-all_equal (x ∷ l) zero v e f = absurd (omega arith)
-all_equal (x ∷ l) (suc n) v e f =
-    let h : x ≡ v = f 0 (omega arith) in
-    let t : l ≡ replicate n v = all_equal l n v (omega arith) (λ k h. f (suc k) (omega arith)) in
-    rw (h, t) refl
-
-pub filled_all : {xs₀ xs : List ℕ} {v i : ℕ} → Filled xs₀ v i xs → length xs₀ ≤ i → xs ≡ replicate (length xs₀) v
-filled_all {xs₀} {xs} {v} F l = all_equal xs (length xs₀) v F.same (λ k h. F.done k (omega arith))
 
 -- ---- a table of one number
 
@@ -159,19 +129,19 @@ module _ {a : Aim} {plan : List ℕ} (A : Aimed a plan) where
     unfolding blank
     blank_core = rw (B.g_is, B.rhs_is, B.parent_is, B.k1_is, B.k2_is, B.place_is, members_none (area a), set_replicate (area a) a.hunter 0) refl
 
-    module _ (zero_km : a.km ≡ 0) {count : ℕ} {k1' k2' place' list' : List ℕ} (E : Entered a a.hunter g (set rhs a.hunter 0) k1 k2 place list count k1' k2' place' list') where
-      pub fresh_became : Became a count (tables plan g (set rhs a.hunter 0) parent k1' k2' place' list') (fresh (graph_in (frame_of a) plan) a.hunter a.target)
+    module _ (zero_km : a.km ≡ 0) {count : ℕ} {t : Tables} (E : Became a count t (method.set_right (hunt a plan) (core (tables plan g (set rhs a.hunter 0) parent k1 k2 place list)) a.hunter)) where
+      pub fresh_became : Became a count t (fresh (graph_in (frame_of a) plan) a.hunter a.target)
       unfolding fresh
       fresh_became =
           record {
             is =
-                (E plan parent).is ∙ ap (λ T. method.set_right (hunt a plan) T a.hunter) blank_core
+                E.is ∙ ap (λ T. method.set_right (hunt a plan) T a.hunter) blank_core
                 ∙ ap (λ k. method.set_right (record { graph = graph_in (frame_of a) plan; hunter = a.hunter; target = a.target; km = k }) (method.with_rhs (blank (area a)) a.hunter 0 0) a.hunter) zero_km;
-            heap = (E plan parent).heap;
+            heap = E.heap;
           }
 
       -- the hunter alone is queued
-      queued_is : members place' ≡ set (replicate (area a) false) a.hunter true
+      queued_is : members t.place ≡ set (replicate (area a) false) a.hunter true
       unfolding fresh blank method.set_right method.enter
       queued_is =
           ap (λ (T : method.Tables). T.queued) fresh_became.is
@@ -183,4 +153,4 @@ module _ {a : Aim} {plan : List ℕ} (A : Aimed a plan) where
           )))
 
       pub fresh_count : count ≡ 1
-      fresh_count = sym (counted (area a) count place' list' fresh_became.heap.tables.agree) ∙ ap tally queued_is ∙ tally_one (area a) a.hunter A.hunter_in
+      fresh_count = sym (counted (area a) count t.place t.list fresh_became.heap.tables.agree) ∙ ap tally queued_is ∙ tally_one (area a) a.hunter A.hunter_in

@@ -1,17 +1,17 @@
 -- What the inner functions promise.
-use Rattle.std.specs.Prelude.{◌≡◌, List, ℕ, ◌+◌, ◌<◌, min, get_or, length, set}
+use Rattle.std.specs.Prelude.{◌≡◌, List, ℕ, ◌+◌, ◌<◌, min, get_or, length, set, Option, Some, None}
 use Rattle.method.specs.Numbers.{infinite, most_estimate}
 use Rattle.method.specs.Graph.{Hunt}
 use Rattle.method.specs.Tables as method
-use Rattle.queue.specs.Queue.{Heap}
+use Rattle.queue.specs.Queue.{Heap, EntryKept}
 use Rattle.plan.specs.Cells.{Size, Stands}
 use Rattle.plan.specs.Reached.{At}
 use Rattle.plan.specs.declared.Spot.{Spot}
-use Rattle.tables.specs.Lent.{Tables, tables, core}
+use Rattle.tables.specs.declared.Ahead.{Ahead}
+use Rattle.tables.specs.Lent.{Tables, lent, core}
 use Rattle.entries.specs.declared.Aim.{Aim}
 use Rattle.entries.specs.declared.Found.{Found}
 use Rattle.entries.specs.declared.Asked.{Asked}
-use Rattle.entries.specs.declared.Asked.TheVariants.{Keeps, Takes}
 use Rattle.entries.specs.Aims.{area, hunt}
 
 -- What the method has as m is what the tables are now, and they hold a true heap again, of `count` cells.
@@ -39,26 +39,34 @@ pub record Entering (a : Aim) (count cell : ℕ) (at : Spot) (g rhs k1 k2 place 
   pub heap : Heap a.width (area a) count k1 k2 place list
   pub fits : (get_or g cell 0 ≡ get_or rhs cell 0 → ⊥) → KeyFits a g rhs cell
 
--- What is asked of a cell, done to the method's tables.
-abbrev pub obeyed : Hunt → method.Tables → Asked → method.Tables
-obeyed H T Keeps = T
-obeyed H T (Takes s f) = method.set_right H (method.with_rhs T s f.rhs f.parent) s
+-- So in the tables ahead of g.
+abbrev pub EnteringIn : Aim → ℕ → ℕ → Spot → List ℕ → Ahead → Type 0
+EnteringIn a count cell at g t = Entering a count cell at g t.rhs.now t.k1.now t.k2.now t.place.now t.list.now
 
--- It was set right, whatever the plan and the parents are.
-abbrev pub Entered : Aim → ℕ → List ℕ → List ℕ → List ℕ → List ℕ → List ℕ → List ℕ → ℕ → List ℕ → List ℕ → List ℕ → List ℕ → Type 0
-Entered a cell g rhs k1 k2 place list count k1' k2' place' list' =
-    (plan parent : List ℕ) → Became a count (tables plan g rhs parent k1' k2' place' list')
-    (method.set_right (hunt a plan) (core (tables plan g rhs parent k1 k2 place list)) cell)
+-- It was set right, whatever the plan is; rhs and the parents stay.
+pub record Entered (a : Aim) (cell : ℕ) (g : List ℕ) (t : Ahead) (count : ℕ) (t' : Ahead) : Type 0 where
+  pub became : (plan : List ℕ) → Became a count (lent plan g t') (method.set_right (hunt a plan) (core (lent plan g t)) cell)
+  pub rhs_is : t'.rhs.now ≡ t.rhs.now
+  pub parent_is : t'.parent.now ≡ t.parent.now
+
+-- The queue's promise of an entry that stays what it was, in the tables ahead of g.
+abbrev pub KeptIn : ℕ → Ahead → ℕ → Ahead → Type 0
+KeptIn count t count' t' = EntryKept count t.k1.now t.k2.now t.place.now t.list.now count' t'.k1.now t'.k2.now t'.place.now t'.list.now
+
+-- What is asked of a cell, done to the method's tables: nothing, or that it takes a sum and its parent.
+abbrev pub obeyed : Hunt → method.Tables → Option Asked → method.Tables
+obeyed H T None = T
+obeyed H T (Some x) = method.set_right H (method.with_rhs T x.cell x.found.rhs x.found.parent) x.cell
 
 -- A cell can take a sum and its parent: with them its entry can be set right.
-pub record Taking (a : Aim) (count cell : ℕ) (at : Spot) (f : Found) (g rhs parent k1 k2 place list : List ℕ) : Type 0 where
-  pub entering : Entering a count cell at g (set rhs cell f.rhs) k1 k2 place list
-  pub long_parent : length parent ≡ area a
+pub record Taking (a : Aim) (count cell : ℕ) (at : Spot) (f : Found) (g : List ℕ) (t : Ahead) : Type 0 where
+  pub entering : Entering a count cell at g (set t.rhs.now cell f.rhs) t.k1.now t.k2.now t.place.now t.list.now
+  pub long_parent : length t.parent.now ≡ area a
 
 -- It took them, and its entry was set right, whatever the plan is.
-pub record Taken (a : Aim) (cell : ℕ) (f : Found) (g rhs parent k1 k2 place list : List ℕ) (count : ℕ) (rhs' parent' k1' k2' place' list' : List ℕ) : Type 0 where
-  pub became : (plan : List ℕ) → Became a count (tables plan g rhs' parent' k1' k2' place' list') (obeyed (hunt a plan) (core (tables plan g rhs parent k1 k2 place list)) (Takes cell f))
-  pub rhs_is : rhs' ≡ set rhs cell f.rhs
+pub record Taken (a : Aim) (cell : ℕ) (f : Found) (g : List ℕ) (t : Ahead) (count : ℕ) (t' : Ahead) : Type 0 where
+  pub became : (plan : List ℕ) → Became a count (lent plan g t') (obeyed (hunt a plan) (core (lent plan g t)) (Some (record { cell = cell; found = f })))
+  pub rhs_is : t'.rhs.now ≡ set t.rhs.now cell f.rhs
 
 -- A sum and a parent as the method has them.
 abbrev pub found_of : Found → method.Found

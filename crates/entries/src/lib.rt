@@ -1,25 +1,24 @@
 // A cell's queue entry set right, its rhs and parent found anew, the fresh start (record and tables), and the cell that a parent byte names.
 #![tactic(auto)]
 
-ghost use Rattle.std.specs.Prelude.{◌≡◌, ◌+◌, ◌<◌, ◌≤◌, get_or, length, replicate};
+ghost use Rattle.std.specs.Prelude.{◌≡◌, ◌+◌, ◌<◌, ◌≤◌, get_or};
 ghost use Rattle.method.specs.Numbers.{infinite};
 ghost use Rattle.method.specs.Tables.{least_over, anew as anew_of, found_anew};
 ghost use Rattle.method.specs.Session.{fresh as fresh_of};
-ghost use Rattle.queue.specs.Queue.{EntryKept};
 ghost use Rattle.plan.specs.Costs.{plan_of};
 ghost use Rattle.plan.specs.Grid.{into_by};
 ghost use Rattle.plan.specs.Reached.{Placed, between};
-ghost use Rattle.tables.specs.Lent.{tables, frame, frame_of_size, Fits, graph_in, core};
+ghost use Rattle.tables.specs.Lent.{lent, SameTables, frame, frame_of_size, Fits, graph_in, core};
 ghost use Rattle.entries.specs.Aims.{area, frame_of, hunt, AimOf, Aimed, most_rhs, Findable, ReadyAt};
 ghost use Rattle.entries.specs.Begin.{Openable, placed_on, begun, Opened};
-ghost use Rattle.entries.specs.Became.{Became, Entering, Entered, Taking, Taken, found_of};
+ghost use Rattle.entries.specs.Became.{Became, EnteringIn, Entered, KeptIn, Taking, Taken, found_of};
 ghost use Rattle.entries.specs.Parents.{Named, Linked};
 
 use plan;
 use plan::{Reach, Spot};
 use queue;
 use tables;
-use tables::Session;
+use tables::{Ahead, Session};
 
 // What a search goes by: the plan's size, the hunter and the target taken over, the target's row and column, and km.
 #[derive(Clone, Copy)]
@@ -64,37 +63,55 @@ pub fn first_key(a: Aim, m: u32, at: Spot) -> u32
 }
 
 // The entry of a cell set right: queued under the calculated key if g and rhs differ, else absent. Returns the queue's count.
-pub fn set_right(
-    a: Aim,
-    g: &[u32],
-    rhs: &[u32],
-    k1: &mut [u32],
-    k2: &mut [u32],
-    place: &mut [u16],
-    list: &mut [u16],
-    count: usize,
-    cell: usize,
-    at: Spot,
-) -> usize
-    requires { Entering a count cell at g.now rhs.now k1.old k2.old place.old list.old }
-    ensures entered { Entered a cell g.now rhs.now k1.old k2.old place.old list.old result k1.new k2.new place.new list.new }
-    ensures entry_kept { EntryKept count k1.old k2.old place.old list.old result k1.new k2.new place.new list.new }
+pub fn set_right(a: Aim, g: &[u32], ahead: &mut Ahead, count: usize, cell: usize, at: Spot) -> usize
+    requires { EnteringIn a count cell at g.now ahead.old }
+    ensures entered { Entered a cell g.now ahead.old result ahead.new }
+    ensures entry_kept { KeptIn count ahead.old result ahead.new }
+    ensures same_tables { SameTables ahead.old ahead.new }
 {
     let x = g[cell];
-    let y = rhs[cell];
-    let i = place[cell];
+    let y = ahead.rhs[cell];
+    let i = ahead.place[cell];
     if x == y {
         if i == queue::ABSENT {
             return count;
         }
-        return queue::take_out(a.width, k1, k2, place, list, count, cell);
+        return queue::take_out(
+            a.width,
+            ahead.k1,
+            ahead.k2,
+            ahead.place,
+            ahead.list,
+            count,
+            cell,
+        );
     }
-    let m = tables::lesser(x, y);
+    let m = x.min(y);
     let first = first_key(a, m, at);
     if i == queue::ABSENT {
-        return queue::put_in(a.width, k1, k2, place, list, count, cell, first, m);
+        return queue::put_in(
+            a.width,
+            ahead.k1,
+            ahead.k2,
+            ahead.place,
+            ahead.list,
+            count,
+            cell,
+            first,
+            m,
+        );
     }
-    queue::put_under(a.width, k1, k2, place, list, count, cell, first, m);
+    queue::put_under(
+        a.width,
+        ahead.k1,
+        ahead.k2,
+        ahead.place,
+        ahead.list,
+        count,
+        cell,
+        first,
+        m,
+    );
     count
 }
 
@@ -105,35 +122,31 @@ pub struct Found {
     pub parent: u8,
 }
 
-// What a move asks of the cell that it enters: to keep its rhs and parent, or that this cell takes these.
+// What a move can ask of the cell that it enters: that this cell takes this sum and parent.
 #[derive(Clone, Copy)]
-pub enum Asked {
-    Keeps,
-    Takes(usize, Found),
+pub struct Asked {
+    pub cell: usize,
+    pub found: Found,
 }
 
 // A cell takes a sum and its parent, and its entry is set right. Returns the queue's count.
 pub fn take(
     a: Aim,
     g: &[u32],
-    rhs: &mut [u32],
-    parent: &mut [u8],
-    k1: &mut [u32],
-    k2: &mut [u32],
-    place: &mut [u16],
-    list: &mut [u16],
+    ahead: &mut Ahead,
     count: usize,
     cell: usize,
     at: Spot,
     f: Found,
 ) -> usize
-    requires { Taking a count cell at f g.now rhs.old parent.old k1.old k2.old place.old list.old }
-    ensures taken { Taken a cell f g.now rhs.old parent.old k1.old k2.old place.old list.old result rhs.new parent.new k1.new k2.new place.new list.new }
-    ensures entry_kept { EntryKept count k1.old k2.old place.old list.old result k1.new k2.new place.new list.new }
+    requires { Taking a count cell at f g.now ahead.old }
+    ensures taken { Taken a cell f g.now ahead.old result ahead.new }
+    ensures entry_kept { KeptIn count ahead.old result ahead.new }
+    ensures same_tables { SameTables ahead.old ahead.new }
 {
-    rhs[cell] = f.rhs;
-    parent[cell] = f.parent;
-    set_right(a, g, rhs, k1, k2, place, list, count, cell, at)
+    ahead.rhs[cell] = f.rhs;
+    ahead.parent[cell] = f.parent;
+    set_right(a, g, ahead, count, cell, at)
 }
 
 // One more neighbour is looked at: its move is taken if it gives a smaller sum.
@@ -187,79 +200,39 @@ pub fn found_anew(
     a: Aim,
     plan: &[u8],
     g: &[u32],
-    rhs: &mut [u32],
-    parent: &mut [u8],
-    k1: &mut [u32],
-    k2: &mut [u32],
-    place: &mut [u16],
-    list: &mut [u16],
+    ahead: &mut Ahead,
     count: usize,
     cell: usize,
     at: Spot,
 ) -> usize
-    requires { ReadyAt a most_rhs count cell at (tables plan.now g.now rhs.old parent.old k1.old k2.old place.old list.old) }
-    ensures became { Became a result (tables plan.now g.now rhs.new parent.new k1.new k2.new place.new list.new) (found_anew (hunt a plan.now) (core (tables plan.now g.now rhs.old parent.old k1.old k2.old place.old list.old)) cell) }
-    ensures entry_kept { EntryKept count k1.old k2.old place.old list.old result k1.new k2.new place.new list.new }
+    requires { ReadyAt a most_rhs count cell at (lent plan.now g.now ahead.old) }
+    ensures became { Became a result (lent plan.now g.now ahead.new) (found_anew (hunt a plan.now) (core (lent plan.now g.now ahead.old)) cell) }
+    ensures entry_kept { KeptIn count ahead.old result ahead.new }
+    ensures same_tables { SameTables ahead.old ahead.new }
 {
     let f = anew(a, plan, g, cell);
-    take(a, g, rhs, parent, k1, k2, place, list, count, cell, at, f)
-}
-
-// Every number of a table of 32 bits becomes v.
-fn fill_words(xs: &mut [u32], v: u32)
-    ensures { xs.new ≡ replicate (length xs.old) v }
-{
-    for i in 0..xs.len() {
-        xs[i] = v;
-    }
-}
-
-// The same for a table of 16 bits.
-fn fill_halves(xs: &mut [u16], v: u16)
-    ensures { xs.new ≡ replicate (length xs.old) v }
-{
-    for i in 0..xs.len() {
-        xs[i] = v;
-    }
-}
-
-// The same for a table of bytes.
-fn fill_bytes(xs: &mut [u8], v: u8)
-    ensures { xs.new ≡ replicate (length xs.old) v }
-{
-    for i in 0..xs.len() {
-        xs[i] = v;
-    }
+    take(a, g, ahead, count, cell, at, f)
 }
 
 // All tables as at a fresh start: all infinite and absent, but for the hunter, whose rhs is 0 and who is queued under its key. Returns the queue's count, which is 1.
-fn fresh(
-    a: Aim,
-    plan: &[u8],
-    g: &mut [u32],
-    rhs: &mut [u32],
-    parent: &mut [u8],
-    k1: &mut [u32],
-    k2: &mut [u32],
-    place: &mut [u16],
-    list: &mut [u16],
-) -> usize
+fn fresh(a: Aim, plan: &[u8], g: &mut [u32], ahead: &mut Ahead) -> usize
     requires aimed { Aimed a plan.now × (a.km ≡ 0) }
-    requires fits { Fits (area a) (tables plan.now g.old rhs.old parent.old k1.old k2.old place.old list.old) }
-    ensures became { Became a result (tables plan.now g.new rhs.new parent.new k1.new k2.new place.new list.new) (fresh_of (graph_in (frame_of a) plan.now) a.hunter a.target) }
+    requires fits { Fits (area a) (lent plan.now g.old ahead.old) }
+    ensures became { Became a result (lent plan.now g.new ahead.new) (fresh_of (graph_in (frame_of a) plan.now) a.hunter a.target) }
     ensures value { result ≡ 1 }
+    ensures same_tables { SameTables ahead.old ahead.new }
 {
-    fill_words(g, tables::INFINITE);
-    fill_words(rhs, tables::INFINITE);
-    fill_bytes(parent, 0);
-    fill_words(k1, 0);
-    fill_words(k2, 0);
-    fill_halves(place, queue::ABSENT);
-    fill_halves(list, queue::ABSENT);
+    g.fill(tables::INFINITE);
+    ahead.rhs.fill(tables::INFINITE);
+    ahead.parent.fill(0);
+    ahead.k1.fill(0);
+    ahead.k2.fill(0);
+    ahead.place.fill(queue::ABSENT);
+    ahead.list.fill(queue::ABSENT);
     let hunter = a.hunter;
-    rhs[hunter] = 0;
+    ahead.rhs[hunter] = 0;
     let at = plan::spot_of(a.width, hunter);
-    set_right(a, g, rhs, k1, k2, place, list, 0, hunter, at)
+    set_right(a, g, ahead, 0, hunter, at)
 }
 
 // The record of a session on a plan of this size with both cells placed, before its tables are filled.
@@ -280,29 +253,14 @@ pub fn placed_on(width: usize, height: usize, hunter: usize, target: usize) -> S
 }
 
 // A fresh start of a session at its placed cells: fills all tables but the plan, and returns the record.
-pub fn begin(
-    s: Session,
-    plan: &[u8],
-    g: &mut [u32],
-    rhs: &mut [u32],
-    parent: &mut [u8],
-    k1: &mut [u32],
-    k2: &mut [u32],
-    place: &mut [u16],
-    list: &mut [u16],
-) -> Session
-    requires { Openable (frame s) s.hunter s.target (tables plan.now g.old rhs.old parent.old k1.old k2.old place.old list.old) }
-    ensures { (result ≡ begun (frame s) s.hunter s.target) × Opened (frame s) s.hunter s.target (tables plan.now g.old rhs.old parent.old k1.old k2.old place.old list.old) (tables plan.now g.new rhs.new parent.new k1.new k2.new place.new list.new) }
+pub fn begin(s: Session, plan: &[u8], g: &mut [u32], ahead: &mut Ahead) -> Session
+    requires { Openable (frame s) s.hunter s.target (lent plan.now g.old ahead.old) }
+    ensures opened { (result ≡ begun (frame s) s.hunter s.target) × Opened (frame s) s.hunter s.target (lent plan.now g.old ahead.old) (lent plan.now g.new ahead.new) }
+    ensures same_tables { SameTables ahead.old ahead.new }
 {
-    let mut session = s;
-    session.origin = s.hunter;
-    session.goal = s.target;
-    session.km = 0;
-    session.count = 0;
-    session.searches = 0;
-    let a = aim_of(session);
-    session.count = fresh(a, plan, g, rhs, parent, k1, k2, place, list);
-    session
+    let placed = placed_on(s.width, s.height, s.hunter, s.target);
+    let count = fresh(aim_of(placed), plan, g, ahead);
+    Session { count, ..placed }
 }
 
 // The cell that the parent byte of s names: the byte is the direction there plus 1.

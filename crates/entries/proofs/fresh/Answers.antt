@@ -1,25 +1,22 @@
 -- What the fills left are blank tables; the hunter's rhs is set and its entry set right.
+use Rattle.std.proofs.Common.{rules}
 use Rattle.entries.proofs.FreshLaws.{blank_filled, fresh_became, fresh_count}
 use Rattle.entries.proofs.fresh.Goals as goal
 
-pub returns-clause-became : goal.returns-clause-became
-returns-clause-became c = let b = blank_filled
+pub returns : goal.returns
+returns c =
+    let b = blank_filled
     c.requires.fits
-    c.fill_words.ensures
-    c.fill_words-2.ensures
-    c.fill_bytes.ensures
-    c.fill_words-3.ensures
-    c.fill_words-4.ensures
-    c.fill_halves.ensures
-    c.fill_halves-2.ensures in fresh_became c.requires.aimed.0 b c.requires.aimed.1 c.set_right.ensures.entered
-
-pub returns-clause-value : goal.returns-clause-value
-returns-clause-value c = let b = blank_filled
-    c.requires.fits
-    c.fill_words.ensures
-    c.fill_words-2.ensures
-    c.fill_bytes.ensures
-    c.fill_words-3.ensures
-    c.fill_words-4.ensures
-    c.fill_halves.ensures
-    c.fill_halves-2.ensures in fresh_count c.requires.aimed.0 b c.requires.aimed.1 c.set_right.ensures.entered
+    (c.fill.ensures.after (λ _ e. e))
+    (c.fill-2.ensures.after (λ _ e. e))
+    (c.fill-3.ensures.after (λ _ e. e))
+    (c.fill-4.ensures.after (λ _ e. e))
+    (c.fill-5.ensures.after (λ _ e. e))
+    (c.fill-6.ensures.after (λ _ e. e))
+    (c.fill-7.ensures.after (λ _ e. e)) in
+    let entered = c.set_right.ensures.entered.became c.args.plan.now in
+    record {
+      became = fresh_became c.requires.aimed.0 b c.requires.aimed.1 entered;
+      value = fresh_count c.requires.aimed.0 b c.requires.aimed.1 entered;
+      same_tables = search rules;
+    }
