@@ -1,44 +1,28 @@
 // An input read whole into a lent buffer: how many bytes it has, or why a read failed.
 #![tactic(auto)]
 
-ghost use Rattle.input.specs.Promise.{Within};
+ghost use Rattle.std.specs.Prelude.{◌≤◌, ◌<◌, length, take, IfOk};
+ghost use Rattle.std.specs.Io.KnownBytes.{Consumes, IsAtEnd};
 
 use std::io;
 use std::io::Read;
 
-// What came of reading: so many bytes, which stand at the start of the buffer, or that a read failed, and why.
-#[derive(Clone, Copy)]
-pub enum Got {
-    Bytes(usize),
-    Failed(io::Error),
-}
-
-// One read, which may bring fewer bytes than the buffer takes, and none at the end of the input. A read that a signal interrupts before a byte is moved has failed too.
-fn read_some<R: Read>(reader: &mut R, buffer: &mut [u8]) -> Got
-    ensures { Within buffer.new result }
-{
-    match reader.read(buffer) {
-        Ok(count) => Got::Bytes(count),
-        Err(why) => Got::Failed(why),
-    }
-}
-
-// Reads until the buffer is full or the input ends. A short read does not tell whether the input has ended, so another follows, which has to find the end.
+// Reads until the buffer is full or the input ends: so many bytes, which stand at the start of the buffer, or why a read failed. A read that a signal interrupts before a byte is moved has failed too.
+// They are the bytes that the reader had left, in their order, and where they do not fill the buffer it has none left; which bytes those are is known of a reader over memory alone, for no contract of C's says it.
+// A short read does not tell whether the input has ended, so another follows, which has to find the end.
 // Once the buffer is full no byte more is asked for, so it is not told whether the input ends there.
-pub fn read_whole<R: Read>(reader: &mut R, buffer: &mut [u8]) -> Got
-    ensures { Within buffer.new result }
+pub fn read_whole<R: Read>(reader: &mut R, buffer: &mut [u8]) -> io::Result<usize>
+    ensures within { IfOk result (λ n. n ≤ length buffer.new) }
+    ensures bytes { IfOk result (λ n. Consumes (R.remaining reader.old) (R.remaining reader.new) (take n buffer.new)) }
+    ensures end { IfOk result (λ n. n < length buffer.new → IsAtEnd (R.remaining reader.new)) }
 {
     let mut done = 0;
     while done < buffer.len() {
-        let read = read_some(reader, &mut buffer[done..]);
-        let more = match read {
-            Got::Bytes(more) => more,
-            Got::Failed(why) => return Got::Failed(why),
-        };
+        let more = reader.read(&mut buffer[done..])?;
         if more == 0 {
-            break;
+            return Ok(done);
         }
         done += more;
     }
-    Got::Bytes(done)
+    Ok(done)
 }

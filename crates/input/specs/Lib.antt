@@ -1,2 +1,0 @@
--- What reading an input promises.
-pub mod Promise
