@@ -1,7 +1,7 @@
 // The question that a program's words ask about a drill: what the hunter reaches, the cost along listed cells, or the cost through a move.
 #![tactic(auto)]
 
-ghost use Rattle.std.specs.Prelude.{◌+◌, ◌≤◌, ◌<◌};
+ghost use Rattle.std.specs.Prelude.{◌<◌, ◌≤◌, IfSome};
 ghost use Rattle.question.specs.Hears.{Hears};
 
 use std::env::{Env, FillError};
@@ -9,169 +9,99 @@ use std::env::{Env, FillError};
 // One cell more than the largest plan has: a list that is longer is refused as one of this length is.
 pub const ROOM: usize = 4097;
 
-// The greatest number that a listed cell can have. One that is greater stands for it, for it is no cell of any plan either.
-const GREATEST: usize = 65535;
-
-// What stands for a word that is no number, and for one that is no direction.
-const NO_NUMBER: usize = 65536;
-
-const NO_DIRECTION: usize = 4;
+// How many bytes a word of a question may have. One that is longer is read as an empty one: it is no word of a question.
+const LONGEST_WORD: usize = 4096;
 
 // What is asked: what the hunter reaches, the cost along so many listed cells, or the cost through the move of a cell in a direction.
 #[derive(Clone, Copy)]
 pub enum Question {
     Reached,
-    Along(usize),
-    Through(usize, usize),
-}
-
-// What the words come to: a question, or none.
-#[derive(Clone, Copy)]
-pub enum Heard {
-    Asked(Question),
-    Nothing,
-}
-
-// Is it this word?
-fn is_word(given: &[u8], word: &[u8]) -> bool {
-    if given.len() != word.len() {
-        return false;
-    }
-    for i in 0..word.len() {
-        if given[i] != word[i] {
-            return false;
-        }
-    }
-    true
-}
-
-// A number with one more digit behind it.
-fn with_digit(number: usize, digit: u8) -> usize
-    requires { (number ≤ 65535) × (48 ≤ digit) }
-    ensures { result ≤ 65535 }
-{
-    let longer = 10 * number + (digit - b'0') as usize;
-    if longer < GREATEST { longer } else { GREATEST }
-}
-
-// The number that a word tells in decimal digits.
-fn number_in(word: &[u8]) -> usize
-    ensures { result ≤ 65536 }
-{
-    if word.len() == 0 {
-        return NO_NUMBER;
-    }
-    let mut number = 0;
-    for i in 0..word.len() {
-        let digit = word[i];
-        if digit < b'0' {
-            return NO_NUMBER;
-        }
-        if b'9' < digit {
-            return NO_NUMBER;
-        }
-        number = with_digit(number, digit);
-    }
-    number
+    Along { cells: usize },
+    Through { cell: usize, direction: usize },
 }
 
 // How many words the program is given, its own name among them.
 fn word_count<E: Env>(env: &E) -> usize {
-    for i in 0..usize::MAX {
-        let mut first = [0u8; 1];
-        if let Err(FillError::NotPresent) = env.arg(i, &mut first) {
-            return i;
+    (0..usize::MAX)
+        .find(|i| matches!(env.arg(*i, &mut [0u8; 1]), Err(FillError::NotPresent)))
+        .unwrap_or(usize::MAX)
+}
+
+// The word of this number, read into the lent room.
+fn word<'a, E: Env>(env: &E, i: usize, room: &'a mut [u8]) -> &'a [u8] {
+    let length = env.arg(i, room).unwrap_or(0);
+    &room[..length]
+}
+
+// Is the word of this number this one?
+fn says<E: Env>(env: &E, i: usize, expected: &[u8]) -> bool {
+    word(env, i, &mut [0u8; LONGEST_WORD]) == expected
+}
+
+// The number that a word tells in decimal digits. One that is greater than a listed cell can have, 65,535, stands for it, for it is no cell of any plan either.
+fn number_in(word: &[u8]) -> Option<u16> {
+    if word.is_empty() {
+        return None;
+    }
+    let mut number: u16 = 0;
+    for digit in word {
+        if !digit.is_ascii_digit() {
+            return None;
         }
+        number = number
+            .saturating_mul(10)
+            .saturating_add(u16::from(digit - b'0'));
     }
-    usize::MAX
+    Some(number)
 }
 
-// Is the argument of this number this word? One that is too long for the buffer is read as an empty one: it is no word of a question.
-fn says<E: Env>(env: &E, i: usize, word: &[u8]) -> bool {
-    let mut given = [0u8; 4096];
-    let length = env.arg(i, &mut given).unwrap_or(0);
-    is_word(&given[..length], word)
+// The cell that the word of this number tells.
+fn cell_told<E: Env>(env: &E, i: usize) -> Option<u16> {
+    number_in(word(env, i, &mut [0u8; LONGEST_WORD]))
 }
 
-// The number that an argument tells.
-fn number_told<E: Env>(env: &E, i: usize) -> usize
-    ensures { result ≤ 65536 }
+// The direction that the word of this number names.
+fn direction_told<E: Env>(env: &E, i: usize) -> Option<usize>
+    ensures { IfSome result (λ d. d < 4) }
 {
-    let mut given = [0u8; 4096];
-    let length = env.arg(i, &mut given).unwrap_or(0);
-    number_in(&given[..length])
-}
-
-// The direction that an argument names.
-fn direction_told<E: Env>(env: &E, i: usize) -> usize
-    ensures { result ≤ 4 }
-{
-    if says(env, i, b"north") {
-        return 0;
-    }
-    if says(env, i, b"east") {
-        return 1;
-    }
-    if says(env, i, b"south") {
-        return 2;
-    }
-    if says(env, i, b"west") {
-        return 3;
-    }
-    NO_DIRECTION
-}
-
-// Keeps the cell of this place in the list, if there is room.
-fn keep(cell: usize, i: usize, cells: &mut [u16])
-    requires { cell < 65536 }
-{
-    if i < cells.len() {
-        cells[i] = cell as u16;
+    match word(env, i, &mut [0u8; LONGEST_WORD]) {
+        b"north" => Some(0),
+        b"east" => Some(1),
+        b"south" => Some(2),
+        b"west" => Some(3),
+        _ => None,
     }
 }
 
-// The question that lists the cells of so many words from the third on.
-fn hear_cells<E: Env>(env: &E, words: usize, cells: &mut [u16]) -> Heard
-    requires { words + 3 < 18446744073709551616 }
+// The question that lists the cells of the words from the third on; those for which there is room are kept.
+fn hear_cells<E: Env>(env: &E, count: usize, cells: &mut [u16]) -> Option<Question>
+    requires { 3 ≤ count }
     ensures { Hears result }
 {
-    for i in 0..words {
-        let cell = number_told(env, 3 + i);
-        if cell == NO_NUMBER {
-            return Heard::Nothing;
+    let mut kept = cells.iter_mut();
+    for i in 3..count {
+        let cell = cell_told(env, i)?;
+        if let Some(place) = kept.next() {
+            *place = cell;
         }
-        keep(cell, i, cells);
     }
-    Heard::Asked(Question::Along(words))
+    Some(Question::Along { cells: count - 3 })
 }
 
 // The question that the words behind the file's name ask; the cells of a list are kept.
-pub fn hear<E: Env>(env: &E, cells: &mut [u16]) -> Heard
+pub fn hear<E: Env>(env: &E, cells: &mut [u16]) -> Option<Question>
     ensures { Hears result }
 {
     let count = word_count(env);
-    if count < 2 {
-        return Heard::Nothing;
+    match count {
+        0 | 1 => None,
+        2 => Some(Question::Reached),
+        _ if says(env, 2, b"along") => hear_cells(env, count, cells),
+        5 if says(env, 2, b"through") => {
+            let cell = usize::from(cell_told(env, 3)?);
+            let direction = direction_told(env, 4)?;
+            Some(Question::Through { cell, direction })
+        }
+        _ => None,
     }
-    if count == 2 {
-        return Heard::Asked(Question::Reached);
-    }
-    if says(env, 2, b"along") {
-        return hear_cells(env, count - 3, cells);
-    }
-    if count != 5 {
-        return Heard::Nothing;
-    }
-    if !says(env, 2, b"through") {
-        return Heard::Nothing;
-    }
-    let cell = number_told(env, 3);
-    if cell == NO_NUMBER {
-        return Heard::Nothing;
-    }
-    let direction = direction_told(env, 4);
-    if direction == NO_DIRECTION {
-        return Heard::Nothing;
-    }
-    Heard::Asked(Question::Through(cell, direction))
 }
