@@ -1,40 +1,37 @@
-// Texts put into a lent buffer: a byte, a word, a number in decimal.
+// Texts put into a lent room: a word, a number in decimal.
 #![tactic(auto)]
 
-ghost use Rattle.std.specs.Prelude.{◌+◌, ◌≤◌, ◌<◌, [], ◌∷◌, length};
+ghost use Rattle.std.specs.Prelude.{◌≡◌, ◌+◌, ◌≤◌, length};
 ghost use Rattle.text.specs.Text.{decimal};
 ghost use Rattle.text.specs.Put.{Put};
 
-// Puts one byte.
-pub fn put_byte(b: u8, text: &mut [u8], at: usize) -> usize
-    requires { at < length text.old }
-    ensures { Put text.old at (b ∷ []) result text.new }
-{
-    text[at] = b;
-    at + 1
+use itoa;
+
+// A text in a lent room, of which it takes so many bytes from the first on.
+#[derive(Drop)]
+pub struct Text<'a> {
+    pub room: &'a mut [u8],
+    pub used: usize,
 }
 
-// Puts the bytes of a word.
-pub fn put_word(word: &[u8], text: &mut [u8], at: usize) -> usize
-    requires { at + length word.now ≤ length text.old }
-    ensures { Put text.old at word.now result text.new }
-{
-    let mut i = 0;
-    while i < word.len() {
-        text[at + i] = word[i];
-        i += 1;
+impl<'a> Text<'a> {
+    // Puts the bytes of a word behind the text.
+    pub fn put_word(&mut self, word: &[u8])
+        requires { self.old.used + length word.now ≤ length self.old.room.now }
+        ensures put { Put self.old.room.now self.old.used word.now self.new.used self.new.room.now }
+        ensures same_room { self.new.room.ghost_name ≡ self.old.room.ghost_name }
+    {
+        let end = self.used + word.len();
+        self.room[self.used..end].copy_from_slice(word);
+        self.used = end;
     }
-    at + i
-}
 
-// Puts a number in decimal: its tens first, then its last digit.
-pub fn put_decimal(n: u64, text: &mut [u8], at: usize) -> usize
-    requires { at + length (decimal n) ≤ length text.old }
-    ensures { Put text.old at (decimal n) result text.new }
-{
-    if n < 10 {
-        return put_byte(48 + n as u8, text, at);
+    // Puts a number in decimal behind the text.
+    pub fn put_decimal(&mut self, n: u64)
+        requires { self.old.used + length (decimal n) ≤ length self.old.room.now }
+        ensures put { Put self.old.room.now self.old.used (decimal n) self.new.used self.new.room.now }
+        ensures same_room { self.new.room.ghost_name ≡ self.old.room.ghost_name }
+    {
+        self.put_word(itoa::Buffer::new().format(n).as_bytes());
     }
-    let end = put_decimal(n / 10, text, at);
-    put_byte(48 + (n % 10) as u8, text, end)
 }
