@@ -17,10 +17,10 @@ aimed {s} {a} {plan} O p h g k =
     subst (λ x. Aimed x plan) (sym O.is) (record { obeys = p; hunter_in = h; target_in = g; target_at = O.target_at; km_le = k })
 
 -- What is ready for the record's own aim is ready for this one.
-pub ready_of : {s : Session} {a : Aim} {most count cell : ℕ} {at : Spot} {t : Tables} → AimOf s a → ReadyAt (aim_of s a.row a.column) most count cell at t → ReadyAt a most count cell at t
+pub ready_of : {s : Session} {a : Aim} {most count cell : ℕ} {at : Spot} {t : Tables} → AimOf s a → ReadyAt (aim_of s a.target_at) most count cell at t → ReadyAt a most count cell at t
 ready_of {most = most} {count = count} {cell = cell} {at = at} {t = t} O = subst (λ x. ReadyAt x most count cell at t) (sym O.is)
 
 -- What the tables became, told of the record.
 pub became_of : {s : Session} {a : Aim} {count : ℕ} {t : Tables} (f : Aim → method.Tables) → AimOf s a → Became a count t (f a)
-    → Became (aim_of s a.row a.column) count t (f (aim_of s a.row a.column))
+    → Became (aim_of s a.target_at) count t (f (aim_of s a.target_at))
 became_of {count = count} {t = t} f O = subst (λ x. Became x count t (f x)) O.is

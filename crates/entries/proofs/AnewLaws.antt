@@ -2,6 +2,7 @@
 use mathlib.Core.Path.{◌≡◌, refl, sym, ap, ◌∙◌}
 use mathlib.Core.Logic.{⊎_elim}
 use mathlib.Core.List.{List, [], ◌∷◌}
+use Rattle.std.proofs.Common.{Option, Some, None}
 use Prim.Native.Nat.{ℕ, ◌+◌, ◌≤◌, ◌<◌}
 use native.Mathlib.Numerals.{add-one}
 use native.Mathlib.Omega.{arith}
@@ -16,16 +17,15 @@ use Rattle.plan.specs.Costs.{Plan, cells, Obeys}
 use Rattle.plan.specs.Grid.{into_by, up_to}
 use Rattle.plan.specs.Reached.{listed}
 use Rattle.plan.specs.declared.Reach.{Reach}
-use Rattle.plan.specs.declared.Reach.TheVariants.{Shut, To}
 use Rattle.plan.proofs.GridLaws.{into_reach, open_from_in}
 use Rattle.entries.specs.Aims.{Small}
 
 -- what an answer about a direction says
-pub said_shut : {r : Reach} {l : List Move} → ((code u cost : ℕ) → r ≡ To code u cost → ⊥) → listed r ≡ l → [] ≡ l
-said_shut {r = Shut} n q = q
-said_shut {r = To code u cost} n q = absurd (n code u cost refl)
+pub said_shut : {r : Option Reach} {l : List Move} → ((x : Reach) → r ≡ Some x → ⊥) → listed r ≡ l → [] ≡ l
+said_shut {r = None} n q = q
+said_shut {r = Some x} n q = absurd (n x refl)
 
-pub said_to : {r : Reach} {k v c : ℕ} {l : List Move} → r ≡ To k v c → listed r ≡ l → move k v c ∷ [] ≡ l
+pub said_to : {r : Option Reach} {x : Reach} {l : List Move} → r ≡ Some x → listed r ≡ l → move x.code x.cell x.cost ∷ [] ≡ l
 said_to e q = ap listed (sym e) ∙ q
 
 pub looked_shut : (g : List ℕ) (f : Found) {l : List Move} → [] ≡ l → f ≡ least_over g f l
@@ -36,9 +36,9 @@ pub looked_left : (g : List ℕ) (f : Found) {k v c : ℕ} {l : List Move} → m
 unfolding least_over better
 looked_left g f {k} {v} {c} e h = rw (← e) (sym (choose_no (dec_lt (get_or g v 0 + c) f.sum) (found (get_or g v 0 + c) k) f (λ x. omega arith)))
 
-pub looked_taken : (g : List ℕ) (f : Found) {k v c : ℕ} {l : List Move} → move k v c ∷ [] ≡ l → get_or g v 0 + c < f.sum → found (get_or g v 0 + c) k ≡ least_over g f l
+pub looked_taken : (g : List ℕ) (f : Found) {k v c sum : ℕ} {l : List Move} → move k v c ∷ [] ≡ l → sum ≡ get_or g v 0 + c → sum < f.sum → found sum k ≡ least_over g f l
 unfolding least_over better
-looked_taken g f {k} {v} {c} e h = rw (← e) (sym (choose_yes (dec_lt (get_or g v 0 + c) f.sum) (found (get_or g v 0 + c) k) f h))
+looked_taken g f {k} {v} {c} e is h = rw (← e, is) (sym (choose_yes (dec_lt (get_or g v 0 + c) f.sum) (found (get_or g v 0 + c) k) f (omega arith)))
 
 -- the neighbour of an open move, and its cost
 pub neighbour_in : (p : Plan) → Obeys p → (s d : ℕ) {k v c : ℕ} → d < 4 → move k v c ∷ [] ≡ into_by p s d → (v < cells p) × (c ≤ most_cost)

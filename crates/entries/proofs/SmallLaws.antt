@@ -8,6 +8,7 @@ use native.Mathlib.Decide.{dec_lt}
 use lib.ListN.{get_or, length, get_or-eq_default}
 use Rattle.method.specs.Numbers.{infinite, most_cost, growth}
 use Rattle.method.proofs.Theorems.{rhs_below}
+use Rattle.plan.specs.declared.Spot.{Spot}
 use Rattle.tables.specs.declared.Session.{Session}
 use Rattle.tables.specs.Lent.{Tables, tables, frame, cells}
 use Rattle.tables.specs.Sound.{Sound}
@@ -35,5 +36,5 @@ module _ {s : Session} {t : Tables} (S : Sound s t) where
       (rhs_below (graph_in_laws (frame s) t.plan S.plan.size) S.numbers k l))
 
   -- .. whatever the plan
-  pub sound_held : (plan : List ℕ) (row column : ℕ) → Held (aim_of s row column) s.count (tables plan t.g t.rhs t.parent t.k1 t.k2 t.place t.list)
-  sound_held plan row column = record { sized = S.numbers.sized; heap = S.heap }
+  pub sound_held : (plan : List ℕ) (at : Spot) → Held (aim_of s at) s.count (tables plan t.g t.rhs t.parent t.k1 t.k2 t.place t.list)
+  sound_held plan at = record { sized = S.numbers.sized; heap = S.heap }

@@ -5,7 +5,6 @@ use Rattle.method.specs.Graph.{Hunt}
 use Rattle.method.specs.Tables.{Sized}
 use Rattle.method.specs.Session as method_session
 use Rattle.queue.specs.Queue.{Heap}
-use Rattle.plan.specs.Cells.{Stands}
 use Rattle.plan.specs.Costs.{Plan, plan_of, Obeys}
 use Rattle.plan.specs.Reached.{At}
 use Rattle.plan.specs.declared.Spot.{Spot}
@@ -28,18 +27,18 @@ floor a plan = floor_in (frame_of a) plan
 abbrev pub hunt : Aim → List ℕ → Hunt
 hunt a plan = record { graph = graph_in (frame_of a) plan; hunter = a.hunter; target = a.target; km = a.km }
 
--- What the last search taken over goes by, in this frame and the method's session σ, with its target's row and column.
-abbrev pub aim_by : Frame → method_session.Session → ℕ → ℕ → Aim
-aim_by f σ row column = record { width = f.width; height = f.height; hunter = σ.origin; target = σ.goal; row = row; column = column; km = σ.km }
+-- What the last search taken over goes by, in this frame and the method's session σ, with its target's spot.
+abbrev pub aim_by : Frame → method_session.Session → Spot → Aim
+aim_by f σ at = record { width = f.width; height = f.height; hunter = σ.origin; target = σ.goal; target_at = at; km = σ.km }
 
 -- So of a session's record.
-abbrev pub aim_of : Session → ℕ → ℕ → Aim
-aim_of s row column = aim_by (frame s) (session s) row column
+abbrev pub aim_of : Session → Spot → Aim
+aim_of s at = aim_by (frame s) (session s) at
 
--- The aim a is that, its target's row and column found.
+-- The aim a is that, its target's spot found.
 pub record AimOf (s : Session) (a : Aim) : Type 0 where
-  pub is : a ≡ aim_of s a.row a.column
-  pub target_at : Stands s.width s.goal a.row a.column
+  pub is : a ≡ aim_of s a.target_at
+  pub target_at : At s.width s.goal a.target_at
 
 -- The greatest finite g, and the greatest finite rhs, that the inner functions add to without reaching infinite.
 abbrev pub most_g : ℕ
@@ -51,12 +50,12 @@ most_rhs = most_g + most_cost
 abbrev pub most_km : ℕ
 most_km = 1000000
 
--- What stays while a search runs: an obedient plan, hunter and target inside it, the target's row and column, a small km.
+-- What stays while a search runs: an obedient plan, hunter and target inside it, the target's spot, a small km.
 pub record Aimed (a : Aim) (plan : List ℕ) : Type 0 where
   pub obeys : Obeys (floor a plan)
   pub hunter_in : a.hunter < area a
   pub target_in : a.target < area a
-  pub target_at : Stands a.width a.target a.row a.column
+  pub target_at : At a.width a.target a.target_at
   pub km_le : a.km ≤ most_km
 
 -- The tables have their lengths and hold a true heap of `count` cells.

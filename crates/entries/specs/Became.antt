@@ -4,7 +4,7 @@ use Rattle.method.specs.Numbers.{infinite, most_estimate}
 use Rattle.method.specs.Graph.{Hunt}
 use Rattle.method.specs.Tables as method
 use Rattle.queue.specs.Queue.{Heap, EntryKept}
-use Rattle.plan.specs.Cells.{Size, Stands}
+use Rattle.plan.specs.Cells.{Size}
 use Rattle.plan.specs.Reached.{At}
 use Rattle.plan.specs.declared.Spot.{Spot}
 use Rattle.tables.specs.declared.Ahead.{Ahead}
@@ -23,7 +23,7 @@ pub record Became (a : Aim) (count : ℕ) (t : Tables) (m : method.Tables) : Typ
 pub record Sited (a : Aim) (cell : ℕ) (at : Spot) (g rhs : List ℕ) : Type 0 where
   pub size : Size a.width a.height
   pub target_in : a.target < area a
-  pub target_at : Stands a.width a.target a.row a.column
+  pub target_at : At a.width a.target a.target_at
   pub inside : cell < area a
   pub stands : At a.width cell at
   pub long_g : length g ≡ area a

@@ -15,20 +15,20 @@ ghost use Rattle.entries.specs.Became.{Became, EnteringIn, Entered, KeptIn, Taki
 ghost use Rattle.entries.specs.Parents.{Named, Linked};
 
 use plan;
-use plan::{Reach, Spot};
+use plan::Spot;
 use queue;
+use queue::Queue;
 use tables;
 use tables::{Ahead, Session};
 
-// What a search goes by: the plan's size, the hunter and the target taken over, the target's row and column, and km.
+// What a search goes by: the plan's size, the hunter and the target taken over, where the target stands, and km.
 #[derive(Clone, Copy)]
 pub struct Aim {
     pub width: usize,
     pub height: usize,
     pub hunter: usize,
     pub target: usize,
-    pub row: usize,
-    pub column: usize,
+    pub target_at: Spot,
     pub km: u32,
 }
 
@@ -37,29 +37,23 @@ pub fn aim_of(s: Session) -> Aim
     requires { 1 ≤ s.width }
     ensures { AimOf s result }
 {
-    let spot = plan::spot_of(s.width, s.goal);
     Aim {
         width: s.width,
         height: s.height,
         hunter: s.origin,
         target: s.goal,
-        row: spot.row,
-        column: spot.column,
+        target_at: plan::spot_of(s.width, s.goal),
         km: s.km,
     }
 }
 
 // The first key number of a cell at a spot whose lesser number is m.
 pub fn first_key(a: Aim, m: u32, at: Spot) -> u32
-    requires placed { (Placed at) × (a.row < 64) × (a.column < 64) }
-    requires km_bound { m + between at (record { row = a.row; column = a.column }) + a.km < infinite }
-    ensures { result ≡ m + between at (record { row = a.row; column = a.column }) + a.km }
+    requires placed { Placed at × Placed a.target_at }
+    requires km_bound { m + between at a.target_at + a.km < infinite }
+    ensures { result ≡ m + between at a.target_at + a.km }
 {
-    let aim = Spot {
-        row: a.row,
-        column: a.column,
-    };
-    m + plan::estimate(at, aim) as u32 + a.km
+    m + plan::estimate(at, a.target_at) as u32 + a.km
 }
 
 // The entry of a cell set right: queued under the calculated key if g and rhs differ, else absent. Returns the queue's count.
@@ -72,47 +66,29 @@ pub fn set_right(a: Aim, g: &[u32], ahead: &mut Ahead, count: usize, cell: usize
     let x = g[cell];
     let y = ahead.rhs[cell];
     let i = ahead.place[cell];
+    let mut queue = Queue {
+        width: a.width,
+        k1: &mut *ahead.k1,
+        k2: &mut *ahead.k2,
+        place: &mut *ahead.place,
+        list: &mut *ahead.list,
+        count,
+    };
     if x == y {
         if i == queue::ABSENT {
             return count;
         }
-        return queue::take_out(
-            a.width,
-            ahead.k1,
-            ahead.k2,
-            ahead.place,
-            ahead.list,
-            count,
-            cell,
-        );
+        queue.take_out(cell);
+        return queue.count;
     }
     let m = x.min(y);
     let first = first_key(a, m, at);
     if i == queue::ABSENT {
-        return queue::put_in(
-            a.width,
-            ahead.k1,
-            ahead.k2,
-            ahead.place,
-            ahead.list,
-            count,
-            cell,
-            first,
-            m,
-        );
+        queue.put_in(cell, first, m);
+        return queue.count;
     }
-    queue::put_under(
-        a.width,
-        ahead.k1,
-        ahead.k2,
-        ahead.place,
-        ahead.list,
-        count,
-        cell,
-        first,
-        m,
-    );
-    count
+    queue.put_under(cell, first, m);
+    queue.count
 }
 
 // A sum, and the parent byte of the move that gives it.
@@ -162,21 +138,16 @@ fn looked_at(
     requires { Findable width height plan.now g.now s × (d < 4) }
     ensures { found_of result ≡ least_over g.now (found_of best) (into_by (plan_of width height plan.now) s d) }
 {
-    let reach = plan::move_into(width, height, plan, s, d);
-    let Reach::To(code, u, cost) = reach else {
+    let Some(reach) = plan::move_into(width, height, plan, s, d) else {
         return best;
     };
-    let far = g[u];
-    if far == tables::INFINITE {
-        return best;
-    }
-    let sum = far + cost as u32;
+    let sum = g[reach.cell].saturating_add(reach.cost as u32);
     if best.rhs <= sum {
         return best;
     }
     Found {
         rhs: sum,
-        parent: code,
+        parent: reach.code,
     }
 }
 

@@ -5,24 +5,18 @@ use Rattle.entries.proofs.AnewLaws.{said_shut, said_to, looked_shut, looked_left
 use Rattle.entries.proofs.looked_at.Goals as goal
 
 pub returns-in_default : goal.returns-in_default
-returns-in_default c = looked_shut _ _ (said_shut c.in_default.not-To c.move_into-reach.ensures)
+returns-in_default c = looked_shut _ _ (said_shut c.in_default.not-Some c.move_into.ensures)
 
-pub offset_bounds-g-u : goal.offset_bounds-g-u
-offset_bounds-g-u c = let move_open = said_to c.in-To.is c.move_into-reach.ensures in
+pub offset_bounds-g-reach : goal.offset_bounds-g-reach
+offset_bounds-g-reach c = let move_open = said_to c.in-Some.is c.move_into.ensures in
     omega (arith, neighbour_in _ c.requires.0.obeys _ _ c.requires.1 move_open, area c.requires.0.obeys.size)
 
-pub bounds-g-u : goal.bounds-g-u
-bounds-g-u c = let move_open = said_to c.in-To.is c.move_into-reach.ensures in
+pub bounds-g-reach : goal.bounds-g-reach
+bounds-g-reach c = let move_open = said_to c.in-Some.is c.move_into.ensures in
     omega (arith, neighbour_in _ c.requires.0.obeys _ _ c.requires.1 move_open, c.requires.0.long_g)
 
-pub returns-then-far : goal.returns-then-far
-returns-then-far c = let move_open = said_to c.in-To.is c.move_into-reach.ensures in
-    looked_left _ _ move_open (omega arith)
-
 pub returns-then-best-sum : goal.returns-then-best-sum
-returns-then-best-sum c = let move_open = said_to c.in-To.is c.move_into-reach.ensures in
-    looked_left _ _ move_open c.if-best-sum.true
+returns-then-best-sum c = looked_left _ _ (said_to c.in-Some.is c.move_into.ensures) (omega (arith, c.saturating_add-sum.ensures, c.if-best-sum.true))
 
 pub returns : goal.returns
-returns c = let move_open = said_to c.in-To.is c.move_into-reach.ensures in
-    looked_taken _ _ move_open c.if-best-sum.false
+returns c = looked_taken _ _ (said_to c.in-Some.is c.move_into.ensures) (omega (arith, c.saturating_add-sum.ensures, c.if-best-sum.false)) c.if-best-sum.false
