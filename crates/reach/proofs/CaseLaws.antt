@@ -17,7 +17,9 @@ use Rattle.reach.specs.Bits.{bit, bit_of, Marked, ones_of, sum_to}
 use Rattle.reach.specs.Reachable.{Reachable, Part}
 use Rattle.reach.specs.Outs.{LeadsOut, Listed, Outs}
 use Rattle.reach.specs.Promise.{reach_told, Reports}
-use Rattle.reach.specs.declared.Reaching.{Reaching}
+use Rattle.reach.specs.declared.Counts.{Counts}
+use Rattle.std.specs.Prelude.{Result}
+use Rattle.refusal.specs.declared.Refusal.{Refusal}
 use Rattle.reach.proofs.BitLaws.{sum_same}
 use Rattle.reach.proofs.FillLaws.{reach_self, reach_join, reach_one, closed_holds}
 use Rattle.reach.proofs.OutLaws.{one_outs, outs_as}
@@ -170,14 +172,14 @@ record Known (p : Plan) (h : ℕ) (rows moves : List ℕ) (count : ℕ) : Type 0
   outs : Outs p (Marked p.width rows) moves count (4 * cells p)
 
 -- What is told and written where nothing is refused.
-record Answers (r : Reaching) (height : ℕ) (known list : List ℕ) (count : ℕ) (rows' moves' : List ℕ) : Type 0 where
+record Answers (r : Result Counts Refusal) (height : ℕ) (known list : List ℕ) (count : ℕ) (rows' moves' : List ℕ) : Type 0 where
   cells_told : (reach_told r).cells ≡ ones_of known height
   moves_told : (reach_told r).moves ≡ count
   row : (i : ℕ) → i < height → get_or rows' i 0 ≡ get_or known i 0
   move : (i : ℕ) → i < count → get_or moves' i 0 ≡ get_or list i 0
 
 answers : {width height hunter : ℕ} {plan known list : List ℕ} {count : ℕ} → Known (plan_of width height plan) hunter known list count
-    → {rows moves rows' moves' : List ℕ} {r : Reaching} → Reports width height hunter plan rows moves r rows' moves' → (reach_told r).refusal ≡ 0 → Answers r height known list count rows' moves'
+    → {rows moves rows' moves' : List ℕ} {r : Result Counts Refusal} → Reports width height hunter plan rows moves r rows' moves' → (reach_told r).refusal ≡ 0 → Answers r height known list count rows' moves'
 answers {height = height} {plan = plan} {known = known} {list = list} K {rows' = rows'} P e =
     let z = sym P.answer ∙ e in
     let W = P.done z in
@@ -202,7 +204,7 @@ single_known : Known (plan_of 1 1 single) 0 (1 ∷ []) [] 0
 unfolding bit bit_of all goes opens shifts is_yes leads_out stays ℕ_discrete dec_lt Dec.and
 single_known = record { part = part_by _ _ _ (λ s. []) tt tt tt tt; outs = outs_by _ (1 ∷ []) _ _ (λ x. 0) (omega arith) tt tt tt }
 
-pub one_cell : {rows moves rows' moves' : List ℕ} {r : Reaching} → Reports 1 1 0 single rows moves r rows' moves' → (reach_told r).refusal ≡ 0
+pub one_cell : {rows moves rows' moves' : List ℕ} {r : Result Counts Refusal} → Reports 1 1 0 single rows moves r rows' moves' → (reach_told r).refusal ≡ 0
     → ((reach_told r).cells ≡ 1) × ((reach_told r).moves ≡ 0) × (get_or rows' 0 0 ≡ 1)
 unfolding ones sum_to
 one_cell P e = let a = answers single_known P e in (a.cells_told, a.moves_told, a.row 0 (omega arith))
@@ -215,7 +217,7 @@ west_known : Known (plan_of 2 1 one_way) 0 (3 ∷ []) [] 0
 unfolding bit bit_of all goes opens shifts is_yes leads_out stays ℕ_discrete dec_lt Dec.and
 west_known = record { part = part_by _ _ _ (λ s. get_or ([] ∷ (1 ∷ []) ∷ []) s []) tt tt tt tt; outs = outs_by _ (3 ∷ []) _ _ (λ x. 0) (omega arith) tt tt tt }
 
-pub from_west : {rows moves rows' moves' : List ℕ} {r : Reaching} → Reports 2 1 0 one_way rows moves r rows' moves' → (reach_told r).refusal ≡ 0
+pub from_west : {rows moves rows' moves' : List ℕ} {r : Result Counts Refusal} → Reports 2 1 0 one_way rows moves r rows' moves' → (reach_told r).refusal ≡ 0
     → ((reach_told r).cells ≡ 2) × ((reach_told r).moves ≡ 0) × (get_or rows' 0 0 ≡ 3)
 unfolding ones sum_to
 from_west P e = let a = answers west_known P e in (a.cells_told, a.moves_told, a.row 0 (omega arith))
@@ -225,7 +227,7 @@ east_known : Known (plan_of 2 1 one_way) 1 (2 ∷ []) (7 ∷ []) 1
 unfolding bit bit_of all goes opens shifts is_yes leads_out stays ℕ_discrete dec_lt Dec.and
 east_known = record { part = part_by _ _ _ (λ s. []) tt tt tt tt; outs = outs_by _ (2 ∷ []) _ _ (λ x. 0) (omega arith) tt tt tt }
 
-pub from_east : {rows moves rows' moves' : List ℕ} {r : Reaching} → Reports 2 1 1 one_way rows moves r rows' moves' → (reach_told r).refusal ≡ 0
+pub from_east : {rows moves rows' moves' : List ℕ} {r : Result Counts Refusal} → Reports 2 1 1 one_way rows moves r rows' moves' → (reach_told r).refusal ≡ 0
     → ((reach_told r).cells ≡ 1) × ((reach_told r).moves ≡ 1) × (get_or rows' 0 0 ≡ 2) × (get_or moves' 0 0 ≡ 7)
 unfolding ones sum_to
 from_east P e = let a = answers east_known P e in (a.cells_told, a.moves_told, a.row 0 (omega arith), a.move 0 (omega arith))
@@ -238,7 +240,7 @@ corner_known : Known (plan_of 2 2 corner) 0 (1 ∷ 3 ∷ []) (1 ∷ 12 ∷ []) 2
 unfolding bit bit_of all goes opens shifts is_yes leads_out stays ℕ_discrete dec_lt Dec.and
 corner_known = record { part = part_by _ _ _ (λ s. get_or ([] ∷ [] ∷ (2 ∷ []) ∷ (2 ∷ 1 ∷ []) ∷ []) s []) tt tt tt tt; outs = outs_by _ (1 ∷ 3 ∷ []) _ _ (λ x. x / 12) (omega arith) tt tt tt }
 
-pub round_the_corner : {rows moves rows' moves' : List ℕ} {r : Reaching} → Reports 2 2 0 corner rows moves r rows' moves' → (reach_told r).refusal ≡ 0
+pub round_the_corner : {rows moves rows' moves' : List ℕ} {r : Result Counts Refusal} → Reports 2 2 0 corner rows moves r rows' moves' → (reach_told r).refusal ≡ 0
     → (((reach_told r).cells ≡ 3) × ((reach_told r).moves ≡ 2)) × ((get_or rows' 0 0 ≡ 1) × (get_or rows' 1 0 ≡ 3)) × ((get_or moves' 0 0 ≡ 1) × (get_or moves' 1 0 ≡ 12))
 unfolding ones sum_to
 round_the_corner P e = let a = answers corner_known P e in ((a.cells_told, a.moves_told), (a.row 0 (omega arith), a.row 1 (omega arith)), (a.move 0 (omega arith), a.move 1 (omega arith)))

@@ -9,7 +9,10 @@ use native.Mathlib.Omega.{arith}
 use lib.Arith.{digits_lt}
 use lib.ListN.{length, get_or}
 use lib.Seq.{ext_get_or}
+use Rattle.std.specs.Prelude.{Result, Ok, Err}
 use Rattle.decide.proofs.RuledLaws.{ruled_one, passed_one, passed_zero, onward}
+use Rattle.refusal.specs.declared.Refusal.{Refusal}
+use Rattle.refusal.proofs.NumberLaws.{refusal_of, refusal_is}
 use Rattle.method.specs.Walk.{NoChain}
 use Rattle.plan.specs.Costs.{Plan, plan_of, cells, Obeys}
 use Rattle.plan.specs.Grid.{graph_of}
@@ -17,8 +20,7 @@ use Rattle.reach.specs.Bits.{bit_of, Marked, ones_of, sum_to}
 use Rattle.reach.specs.Reachable.{Reachable, Part, Number}
 use Rattle.reach.specs.Outs.{LeadsOut, Listed}
 use Rattle.reach.specs.Promise.{ReachTold, reach_told, Room, ReachRules, Kept, Written, Reports}
-use Rattle.reach.specs.declared.Reaching.{Reaching}
-use Rattle.reach.specs.declared.Reaching.TheVariants.{Reaches, Refused}
+use Rattle.reach.specs.declared.Counts.{Counts}
 use Rattle.reach.proofs.BitLaws.{same_bits, row_bit, bit_of_le, ones_cells, those}
 use Rattle.reach.proofs.FillLaws.{reach_self}
 use Rattle.reach.proofs.OutLaws.{one_outs}
@@ -84,15 +86,15 @@ one_number : (width height hunter : ℕ) (plan rows moves : List ℕ) {k l : ℕ
 one_number width height hunter plan rows moves {k} {l} = ruled_one (ruled_one (ruled_one (ruled_one (ruled_one (ruled_one passed_one))))) k l
 
 -- An answer by what it tells.
-by_refusal : (r : Reaching) {k : ℕ} → (reach_told r).refusal ≡ k → k ≢ 0 → r ≡ Refused k
-by_refusal (Reaches n m) e z = absurd (z (sym e))
-by_refusal (Refused j) e z = ap Refused e
+by_refusal : (r : Result Counts Refusal) {k : ℕ} → (reach_told r).refusal ≡ k → k ≢ 0 → r ≡ Err (refusal_of k)
+by_refusal (Ok n) e z = absurd (z (sym e))
+by_refusal (Err e) q z = rw (← q) (ap Err (sym (refusal_is e)))
 
-by_cells : (r : Reaching) → (reach_told r).cells ≢ 0 → r ≡ Reaches (reach_told r).cells (reach_told r).moves
-by_cells (Reaches n m) z = refl
-by_cells (Refused j) z = absurd (z refl)
+by_cells : (r : Result Counts Refusal) → (reach_told r).cells ≢ 0 → r ≡ Ok (record { cells = (reach_told r).cells; moves = (reach_told r).moves })
+by_cells (Ok n) z = refl
+by_cells (Err e) z = absurd (z refl)
 
-module _ {width height hunter : ℕ} {plan rows moves : List ℕ} {r : Reaching} {rows' moves' : List ℕ} (P : Reports width height hunter plan rows moves r rows' moves') where
+module _ {width height hunter : ℕ} {plan rows moves : List ℕ} {r : Result Counts Refusal} {rows' moves' : List ℕ} (P : Reports width height hunter plan rows moves r rows' moves') where
   -- The number told is k exactly if k is the number of the first rule broken, and 0 exactly if none is.
   pub reach_number : (k : ℕ) → ((reach_told r).refusal ≡ k) ↔ ReachRules width height hunter plan rows moves k
   reach_number k = (
@@ -101,18 +103,18 @@ module _ {width height hunter : ℕ} {plan rows moves : List ℕ} {r : Reaching}
   )
 
   -- Refused by the number of the first rule broken, and nothing has changed ..
-  pub reach_refused : {k : ℕ} → ReachRules width height hunter plan rows moves k → k ≢ 0 → (r ≡ Refused k) × (rows' ≡ rows) × (moves' ≡ moves)
+  pub reach_refused : {k : ℕ} → ReachRules width height hunter plan rows moves k → k ≢ 0 → (r ≡ Err (refusal_of k)) × (rows' ≡ rows) × (moves' ≡ moves)
   reach_refused {k} rules n =
       let e = one_number width height hunter plan rows moves P.rules rules in
       let U = P.refused (λ z. n (sym e ∙ z)) in
       (by_refusal r (P.answer ∙ e) n, U.same_rows, U.same_moves)
 
-  granted_done : P.number ≡ 0 → (r ≡ Reaches (reach_told r).cells (reach_told r).moves) × Written (plan_of width height plan) hunter rows moves (reach_told r) rows' moves'
+  granted_done : P.number ≡ 0 → (r ≡ Ok (record { cells = (reach_told r).cells; moves = (reach_told r).moves })) × Written (plan_of width height plan) hunter rows moves (reach_told r) rows' moves'
   granted_done z = let W = P.done z in (by_cells r (some_cells W (plan_granted {plan = plan} P.rules z).0.1), W)
 
   -- .. and where no rule is broken, the part and what leads out of it are written.
   pub reach_done : Obeys (plan_of width height plan) → hunter < height * width → Room (plan_of width height plan) hunter rows moves
-      → (r ≡ Reaches (reach_told r).cells (reach_told r).moves) × Written (plan_of width height plan) hunter rows moves (reach_told r) rows' moves'
+      → (r ≡ Ok (record { cells = (reach_told r).cells; moves = (reach_told r).moves })) × Written (plan_of width height plan) hunter rows moves (reach_told r) rows' moves'
   reach_done O l m = granted_done (passed_zero (onward m (onward O.bytes (onward O.edges (onward l (onward O.sized (onward O.size P.rules)))))))
 
 -- ---- one result
@@ -157,7 +159,7 @@ module _ {p : Plan} {h : ℕ} {rows moves : List ℕ} {t₁ t₂ : ReachTold} {r
   moves_same = kept_same A.moves_kept (rw (← count_same) at B.moves_kept) (one_outs A.outs B.outs).1
 
 -- Two results that the promise allows are equal: the answer, every row and every move.
-pub one_reach : {width height hunter : ℕ} {plan rows moves : List ℕ} {r₁ r₂ : Reaching} {rows₁ moves₁ rows₂ moves₂ : List ℕ}
+pub one_reach : {width height hunter : ℕ} {plan rows moves : List ℕ} {r₁ r₂ : Result Counts Refusal} {rows₁ moves₁ rows₂ moves₂ : List ℕ}
     → Reports width height hunter plan rows moves r₁ rows₁ moves₁ → Reports width height hunter plan rows moves r₂ rows₂ moves₂ → (r₁ ≡ r₂) × (rows₁ ≡ rows₂) × (moves₁ ≡ moves₂)
 one_reach {r₁ = r₁} {r₂ = r₂} {rows₁ = rows₁} {moves₁ = moves₁} {rows₂ = rows₂} {moves₂ = moves₂} P Q = at (ℕ_discrete P.number 0)
   where

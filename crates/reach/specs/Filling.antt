@@ -1,4 +1,4 @@
--- What the inner functions rest on: what holds while the part is filled, and what a copy makes.
+-- What the inner functions rest on: what holds while the part is filled.
 use Rattle.std.specs.Prelude.{◌≡◌, ◌≢◌, List, ℕ, ◌+◌, ◌*◌, ◌/◌, ◌%◌, ◌≤◌, ◌<◌, ◌^◌, length, get_or, set}
 use Rattle.plan.specs.Cells.{row, column, entered}
 use Rattle.plan.specs.Costs.{Plan, cells, byte, shut}
@@ -7,7 +7,6 @@ use Rattle.plan.specs.declared.Spot.{Spot}
 use Rattle.reach.specs.Bits.{bit, bit_of, Marked, sum_to}
 use Rattle.reach.specs.Reachable.{Reachable}
 use Rattle.reach.specs.Outs.{Listed}
-use Rattle.reach.specs.Promise.{Kept}
 
 -- A cell of the list is written 64 × row + column: the cell that is meant ..
 abbrev pub cell_by : ℕ → ℕ → ℕ
@@ -74,8 +73,3 @@ pub record Going (p : Plan) (h : ℕ) (rows list : List ℕ) (count looked : ℕ
   pub own : Marked p.width rows h
   pub reached : (i : ℕ) → i < count → Reachable p h (cell_by p.width (get_or list i 0))
   pub looks : (i : ℕ) → i < looked → Looked p rows (get_or list i 0) 4
-
--- The first n are those of another list, the rest stays.
-pub record Copied (from to : List ℕ) (n : ℕ) (to' : List ℕ) : Type 0 where
-  pub first : (i : ℕ) → i < n → get_or to' i 0 ≡ get_or from i 0
-  pub kept : Kept n to to'

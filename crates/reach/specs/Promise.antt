@@ -1,13 +1,14 @@
 -- What the call `reached` promises: its refusals, the answer, and the lent rows and moves, for every input.
-use Rattle.std.specs.Prelude.{◌≡◌, ◌≢◌, List, ℕ, ◌*◌, ◌≤◌, ◌<◌, length, get_or}
+use Rattle.std.specs.Prelude.{◌≡◌, ◌≢◌, List, ℕ, ◌*◌, ◌≤◌, ◌<◌, length, get_or, Result, Ok, Err}
 use Rattle.decide.specs.Ruled.{Ruled, Passed}
+use Rattle.refusal.specs.declared.Refusal.{Refusal}
+use Rattle.refusal.specs.Numbers.{number_of}
 use Rattle.plan.specs.Cells.{Size}
 use Rattle.plan.specs.Costs.{Plan, plan_of, cells, Bytes, Edges}
 use Rattle.reach.specs.Bits.{ones_of}
 use Rattle.reach.specs.Reachable.{Reachable, Part}
 use Rattle.reach.specs.Outs.{Outs}
-use Rattle.reach.specs.declared.Reaching.{Reaching}
-use Rattle.reach.specs.declared.Reaching.TheVariants.{Reaches, Refused}
+use Rattle.reach.specs.declared.Counts.{Counts}
 
 -- ---- the answer
 
@@ -17,9 +18,9 @@ pub record ReachTold : Type 0 where
   pub cells : ℕ
   pub moves : ℕ
 
-abbrev pub reach_told : Reaching → ReachTold
-reach_told (Reaches n m) = record { refusal = 0; cells = n; moves = m }
-reach_told (Refused k) = record { refusal = k; cells = 0; moves = 0 }
+abbrev pub reach_told : Result Counts Refusal → ReachTold
+reach_told (Ok found) = record { refusal = 0; cells = found.cells; moves = found.moves }
+reach_told (Err refusal) = record { refusal = number_of refusal; cells = 0; moves = 0 }
 
 -- ---- the rules
 
@@ -65,7 +66,7 @@ pub record Untouched (rows moves : List ℕ) (told : ReachTold) (rows' moves' : 
   pub same_moves : moves' ≡ moves
 
 -- The number told is that of the first rule broken, and 0 where none is.
-pub record Reports (width height hunter : ℕ) (plan rows moves : List ℕ) (r : Reaching) (rows' moves' : List ℕ) : Type 0 where
+pub record Reports (width height hunter : ℕ) (plan rows moves : List ℕ) (r : Result Counts Refusal) (rows' moves' : List ℕ) : Type 0 where
   pub number : ℕ
   pub rules : ReachRules width height hunter plan rows moves number
   pub answer : (reach_told r).refusal ≡ number

@@ -5,17 +5,17 @@ use Rattle.reach.proofs.FillLaws.{first_asks, going_first, going_le, going_on, w
 use Rattle.reach.proofs.fill.Goals as goal
 
 pub mark-count-requires : goal.mark-count-requires
-mark-count-requires c = first_asks c.requires.obeys c.requires.hunter_bound c.requires.clean c.spot_of-at.ensures
+mark-count-requires c = first_asks c.args.floor.obeys c.requires.hunter_bound c.requires.clean c.spot_of-at.ensures
 
 pub loop-looked-init : goal.loop-looked-init
-loop-looked-init c = going_first c.requires.obeys c.requires.hunter_bound c.requires.clean c.spot_of-at.ensures c.mark-count.ensures
+loop-looked-init c = going_first c.args.floor.obeys c.requires.hunter_bound c.requires.clean c.spot_of-at.ensures c.mark-count.ensures
 
 -- No more cells are listed than the plan has.
 pub offset_bounds-list-looked : goal.offset_bounds-list-looked
-offset_bounds-list-looked c = omega (arith, going_le c.loop-looked.invariant, area c.requires.obeys.size)
+offset_bounds-list-looked c = omega (arith, going_le c.loop-looked.invariant, area c.args.floor.obeys.size)
 
 pub bounds-list-looked : goal.bounds-list-looked
-bounds-list-looked c = omega (arith, going_le c.loop-looked.invariant, area c.requires.obeys.size, c.loop-looked.invariant.filled.room)
+bounds-list-looked c = omega (arith, going_le c.loop-looked.invariant, area c.args.floor.obeys.size, c.loop-looked.invariant.filled.room)
 
 pub loop-looked-smaller : goal.loop-looked-smaller
 loop-looked-smaller c = omega (arith, going_le c.loop-looked.invariant)
@@ -24,4 +24,4 @@ pub loop-looked-preserved : goal.loop-looked-preserved
 loop-looked-preserved c = going_on c.loop-looked.invariant (omega arith) c.around-count.ensures.grown c.around-count.ensures.looked
 
 pub returns : goal.returns
-returns c = whole c.loop-looked.invariant c.requires.obeys (omega arith)
+returns c = whole c.loop-looked.invariant c.args.floor.obeys (omega arith)

@@ -1,11 +1,11 @@
 -- The hunter's cell is marked first; each cell looked at keeps `Going` (`going_on`), and with none left the part is whole.
 use Prim.Native.Nat.{◌-◌, ◌*◌}
-use Rattle.plan.specs.Costs.{plan_of}
+use Rattle.plan.specs.Floors.{floor_plan}
 use Rattle.reach.specs.Filling.{Going}
 use Rattle.reach.proofs.fill.Given as goal
 
 abbrev pub invariant-loop-looked : goal.invariant-loop-looked
-invariant-loop-looked l = Going (plan_of l.width l.height l.plan) l.hunter l.rows l.list l.count l.looked
+invariant-loop-looked l = Going (floor_plan l.floor) l.hunter l.rows l.list l.count l.looked
 
 abbrev pub decreases-loop-looked : goal.decreases-loop-looked
-decreases-loop-looked l = l.height * l.width - l.looked
+decreases-loop-looked l = l.floor.height * l.floor.width - l.looked

@@ -1,6 +1,6 @@
 -- Cell by cell (`put_four`), up to the last of the plan; the walk carries the spot of the cell, so that it divides nothing.
 use Rattle.std.proofs.Common.{◌*◌}
-use Rattle.plan.specs.Costs.{plan_of}
+use Rattle.plan.specs.Floors.{floor_plan}
 use Rattle.plan.specs.Reached.{At}
 use Rattle.reach.specs.Bits.{Marked}
 use Rattle.reach.specs.Outs.{Outs}
@@ -8,6 +8,6 @@ use Rattle.reach.proofs.put_all.Given as goal
 
 abbrev pub invariant-loop-u : goal.invariant-loop-u
 invariant-loop-u l = record {
-  outs : Outs (plan_of l.width l.height l.plan) (Marked l.width l.rows) l.outs l.count (4 * l.u);
-  place : At l.width l.u l.at;
+  outs : Outs (floor_plan l.floor) (Marked l.floor.width l.rows) l.outs l.count (4 * l.u);
+  place : At l.floor.width l.u l.at;
 }

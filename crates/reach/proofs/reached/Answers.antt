@@ -1,19 +1,16 @@
--- Refused with the number that `refusal` found; else `report` works on fresh arrays, which are large enough for every plan.
-use Rattle.std.proofs.Common.{arith}
-use Rattle.plan.proofs.MoveLaws.{area}
-use Rattle.reach.proofs.ReportLaws.{reports_number, plan_granted, zeros}
+-- Refused as the check does; else `report` is asked, of a plan that obeys and a cell of it.
+use Rattle.std.proofs.Common.{refl}
+use Rattle.std.proofs.lemmas.Result.{err_from_is_err_and}
+use Rattle.reach.proofs.ReportLaws.{reports_refused, plan_granted}
 use Rattle.reach.proofs.reached.Goals as goal
 
-pub returns-then-number-ne0 : goal.returns-then-number-ne0
-returns-then-number-ne0 c = reports_number _ _ _ _ _ _ _ c.refusal-number.ensures c.if-number-ne0.true
+pub returns-in_err-check : goal.returns-in_err-check
+returns-in_err-check c =
+    let p = err_from_is_err_and c.from_residual.result c.from_residual.ensures.1 in
+    rw (p.1, p.2) (reports_refused _ _ _ _ _ _ _ c.in_err-check.ensures)
+
+pub invariant_of-floor : goal.invariant_of-floor
+invariant_of-floor c = record { obeys = (plan_granted c.in_ok-check.ensures refl).0.0 }
 
 pub report-requires : goal.report-requires
-report-requires c =
-    let g = (plan_granted c.refusal-number.ensures c.if-number-ne0.false).0 in
-    let z = g.0.size in
-    record {
-      obeys = g.0;
-      hunter_bound = g.1;
-      clean = record { rowed = omega (arith, z.low); room = omega (arith, area z); none = zeros 64 };
-      width_in_bounds = omega (arith, area z);
-    }
+report-requires c = (plan_granted c.in_ok-check.ensures refl).0.1

@@ -27,33 +27,33 @@ module _ {p : Plan} (O : Obeys p) {x d : ℕ} (I : Within p.width p.height x) (l
 pub moved-to-requires-clause-bound : goal.moved-to-requires-clause-bound
 moved-to-requires-clause-bound c =
     let w = c.requires.within in
-    (move_asks c.requires.obeys (in_plan w.0) (stands w.0) w.1 (keeps_in c.requires.obeys w.0 w.1 c.if-plan-row.false)).1
+    (move_asks c.args.floor.obeys (in_plan w.0) (stands w.0) w.1 (keeps_in c.args.floor.obeys w.0 w.1 c.if-floor-row.false)).1
 
 pub is_marked-requires : goal.is_marked-requires
 is_marked-requires c =
     let w = c.requires.within in
-    let inside = entered_in _ c.requires.obeys _ _ (in_plan w.0) w.1 (keeps_in c.requires.obeys w.0 w.1 c.if-plan-row.false) in
-    marked_asks c.requires.obeys inside (there c.requires.obeys w.0 w.1 c.if-plan-row.false c.moved-to.ensures) c.args.rows.now c.requires.filled.rowed
+    let inside = entered_in _ c.args.floor.obeys _ _ (in_plan w.0) w.1 (keeps_in c.args.floor.obeys w.0 w.1 c.if-floor-row.false) in
+    marked_asks c.args.floor.obeys inside (there c.args.floor.obeys w.0 w.1 c.if-floor-row.false c.moved-to.ensures) c.args.rows.now c.requires.filled.rowed
 
 pub returns-then-is_marked-clause-looks : goal.returns-then-is_marked-clause-looks
 returns-then-is_marked-clause-looks c =
     let w = c.requires.within in
-    λ _. (c.is_marked.ensures _ _ (there c.requires.obeys w.0 w.1 c.if-plan-row.false c.moved-to.ensures)).so c.if-is_marked.true
+    λ _. (c.is_marked.ensures _ _ (there c.args.floor.obeys w.0 w.1 c.if-floor-row.false c.moved-to.ensures)).so c.if-is_marked.true
 
 pub mark-requires : goal.mark-requires
 mark-requires c =
     let w = c.requires.within in
-    let at = there c.requires.obeys w.0 w.1 c.if-plan-row.false c.moved-to.ensures in
-    new_asks c.requires.obeys c.requires.filled w.0 w.1 c.if-plan-row.false at (refuted (c.is_marked.ensures _ _ at) c.if-is_marked.false)
+    let at = there c.args.floor.obeys w.0 w.1 c.if-floor-row.false c.moved-to.ensures in
+    new_asks c.args.floor.obeys c.requires.filled w.0 w.1 c.if-floor-row.false at (refuted (c.is_marked.ensures _ _ at) c.if-is_marked.false)
 
 pub returns-clause-grown : goal.returns-clause-grown
 returns-clause-grown c =
     let w = c.requires.within in
-    let at = there c.requires.obeys w.0 w.1 c.if-plan-row.false c.moved-to.ensures in
-    (one_new c.requires.obeys c.requires.filled w.0 w.1 c.if-plan-row.false at (refuted (c.is_marked.ensures _ _ at) c.if-is_marked.false) c.mark.ensures).0
+    let at = there c.args.floor.obeys w.0 w.1 c.if-floor-row.false c.moved-to.ensures in
+    (one_new c.args.floor.obeys c.requires.filled w.0 w.1 c.if-floor-row.false at (refuted (c.is_marked.ensures _ _ at) c.if-is_marked.false) c.mark.ensures).0
 
 pub returns-clause-looks : goal.returns-clause-looks
 returns-clause-looks c =
     let w = c.requires.within in
-    let at = there c.requires.obeys w.0 w.1 c.if-plan-row.false c.moved-to.ensures in
-    (one_new c.requires.obeys c.requires.filled w.0 w.1 c.if-plan-row.false at (refuted (c.is_marked.ensures _ _ at) c.if-is_marked.false) c.mark.ensures).1
+    let at = there c.args.floor.obeys w.0 w.1 c.if-floor-row.false c.moved-to.ensures in
+    (one_new c.args.floor.obeys c.requires.filled w.0 w.1 c.if-floor-row.false at (refuted (c.is_marked.ensures _ _ at) c.if-is_marked.false) c.mark.ensures).1

@@ -1,6 +1,0 @@
--- Element by element.
-use Rattle.reach.specs.Filling.{Copied}
-use Rattle.reach.proofs.copy_moves.Given as goal
-
-abbrev pub invariant-loop-i : goal.invariant-loop-i
-invariant-loop-i l = Copied l.from l.initial.to l.i l.to
