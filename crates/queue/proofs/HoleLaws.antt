@@ -8,9 +8,10 @@ use lib.ListN.{get_or, set, length, length-set}
 use lib.Seq.{get_or-set_same, get_or-set_other, set-set, set_comm}
 use Rattle.decide.specs.Order.{less_or, column_first, Order}
 use Rattle.decide.proofs.OrderLaws.{split}
+use Rattle.queue.specs.declared.Entry.{Entry}
 use Rattle.queue.specs.Order.{before}
 use Rattle.queue.specs.Queue.{members, Under, Ordered}
-use Rattle.queue.specs.Sift.{Loose, Low, Risen, Held, Sifted, Stands, place_after, list_after, KeyOf, Compares, Lesser}
+use Rattle.queue.specs.Sift.{Loose, Low, Risen, Held, Sifted, Stands, place_after, list_after, EntryOf, Compares, Lesser}
 use Rattle.queue.proofs.OrderLaws.{one_way}
 use Rattle.queue.proofs.KeyLaws.{compared}
 use Rattle.queue.proofs.HeapLaws.{Swapped, keep_both, rise, stay_over, stay_last}
@@ -76,11 +77,11 @@ module _ {width room count c i : ℕ} {k1 k2 place list : List ℕ} (h : Held wi
     other_key = rw as_it_is at (has_key h.tables bp)
 
     -- Their keys compare as the entries so read.
-    pub first_before : {m n : ℕ} {r : Bool} → KeyOf k1 k2 c m → KeyOf k1 k2 o n → r ≡ less_or m n (column_first width c o)
+    pub first_before : {m n : Entry} {r : Bool} → EntryOf k1 k2 c m → EntryOf k1 k2 o n → r ≡ less_or m.key n.key (column_first width m.cell n.cell)
         → before width k1 k2 (get_or (set list i c) i 0) (get_or (set list i c) p 0) ≡ r
     first_before own other e = compared width own other in_hand as_it_is e
 
-    pub second_before : {m n : ℕ} {r : Bool} → KeyOf k1 k2 c m → KeyOf k1 k2 o n → r ≡ less_or n m (column_first width o c)
+    pub second_before : {m n : Entry} {r : Bool} → EntryOf k1 k2 c m → EntryOf k1 k2 o n → r ≡ less_or n.key m.key (column_first width n.cell m.cell)
         → before width k1 k2 (get_or (set list i c) p 0) (get_or (set list i c) i 0) ≡ r
     second_before own other e = compared width other own as_it_is in_hand e
 

@@ -1,6 +1,7 @@
 -- Inner notions, not part of the queue's promise: what its private functions promise each other while one cell is on its way to its place.
 -- The cell is in hand and a place of the list is empty. The tables are read as if it stood there: `set place cell i` and `set list i cell`.
 use Rattle.std.specs.Prelude.{◌≡◌, Bool, false, List, ℕ, ◌+◌, ◌*◌, ◌≤◌, ◌<◌, get_or, set, length}
+use Rattle.queue.specs.declared.Entry.{Entry}
 use Rattle.queue.specs.declared.Queue.{Queue}
 use Rattle.queue.specs.Order.{before}
 use Rattle.queue.specs.Queue.{absent, members, Tables, Under, Ordered}
@@ -55,17 +56,11 @@ place_after i j place list = set (set place (get_or list j 0) i) (get_or list i 
 abbrev pub list_after : ℕ → ℕ → List ℕ → List ℕ
 list_after i j list = set (set list i (get_or list j 0)) j (get_or list i 0)
 
--- Cells a and b can be compared.
-pub record Keyed (width : ℕ) (k1 k2 : List ℕ) (a b : ℕ) : Type 0 where
-  pub wide : 0 < width
-  pub lengths : length k2 ≡ length k1
-  pub one : a < length k1
-  pub other : b < length k1
-
--- p is the key of the cell as one number, k1 in its upper half.
-pub record KeyOf (k1 k2 : List ℕ) (cell p : ℕ) : Type 0 where
-  pub number : p ≡ get_or k1 cell 0 * 4294967296 + get_or k2 cell 0
-  pub half : get_or k2 cell 0 < 4294967296
+-- The entry in hand is that of cell c, and its key is one number, k1 in its upper half.
+pub record EntryOf (k1 k2 : List ℕ) (c : ℕ) (entry : Entry) : Type 0 where
+  pub cell : entry.cell ≡ c
+  pub number : entry.key ≡ get_or k1 c 0 * 4294967296 + get_or k2 c 0
+  pub half : get_or k2 c 0 < 4294967296
 
 -- Any two entries right under place i can be compared. What stands at i itself may be no cell.
 pub record Compares (width count i : ℕ) (k1 k2 list : List ℕ) : Type 0 where

@@ -9,67 +9,41 @@ ghost use Rattle.decide.specs.Order.{less_or, column_first};
 ghost use Rattle.queue.specs.Order.{before};
 ghost use Rattle.queue.specs.Queue.{absent, Ordered, LeastOf};
 ghost use Rattle.queue.specs.Lent.{SameTables, HeapIn, ChangedIn, EntryKeptIn};
-ghost use Rattle.queue.specs.Rules.{EntryRule, AbsentRule, QueuedRule, Lengths};
-ghost use Rattle.queue.specs.Sift.{Risen, Stands, Keyed, KeyOf, Compares, Lesser, HeldIn, LooseIn, LowIn, KeysStay, SiftedIn};
+ghost use Rattle.queue.specs.Rules.{Above, EntryRule, AbsentRule, QueuedRule, Lengths};
+ghost use Rattle.queue.specs.Sift.{Risen, Stands, EntryOf, Compares, Lesser, HeldIn, LooseIn, LowIn, KeysStay, SiftedIn};
 
 // The place of a cell that is not queued, and the content of an unused place of the list.
 pub const ABSENT: u16 = 65535;
 
-// A cell number or a place, as an index.
-fn wide(x: u16) -> usize
-    ensures { result ≡ x }
-{
-    x as usize
+// An entry in hand: a cell, and its key as one number, k1 in its upper half. Keys are ordered as these numbers are, and one test compares two.
+#[derive(Clone, Copy)]
+struct Entry {
+    cell: usize,
+    key: u64,
 }
 
-// Does cell a come before cell b where their keys are equal? The smaller column, then the smaller row.
-fn tie_before(width: usize, a: usize, b: usize) -> bool
-    requires { 0 < width }
-    ensures { result ≡ column_first width a b }
-{
-    let x = a % width;
-    let y = b % width;
-    if x != y {
-        return x < y;
+impl Entry {
+    // The entry of a cell.
+    fn of(k1: &[u32], k2: &[u32], cell: usize) -> Entry
+        requires { (cell < length k1.now) × (length k2.now ≡ length k1.now) }
+        ensures { EntryOf k1.now k2.now cell result }
+    {
+        Entry {
+            cell,
+            key: u64::from(k1[cell]) << 32 | u64::from(k2[cell]),
+        }
     }
-    a < b
-}
 
-// Does cell a come before cell b?
-fn cell_before(width: usize, k1: &[u32], k2: &[u32], a: usize, b: usize) -> bool
-    requires { Keyed width k1.now k2.now a b }
-    ensures { result ≡ before width k1.now k2.now a b }
-{
-    let a1 = k1[a];
-    let b1 = k1[b];
-    if a1 != b1 {
-        return a1 < b1;
+    // Does it come before the other? Where their keys are equal, the smaller column decides, then the smaller row; else no division is made.
+    #[tactic(auto, unfolding(decide::specs::Order::less_or, decide::specs::Order::column_first))]
+    fn comes_before(self, other: Entry, width: usize) -> bool
+        requires { 0 < width }
+        ensures { result ≡ less_or self.key other.key (column_first width self.cell other.cell) }
+    {
+        self.key < other.key
+            || self.key == other.key
+                && (self.cell % width, self.cell) < (other.cell % width, other.cell)
     }
-    let a2 = k2[a];
-    let b2 = k2[b];
-    if a2 != b2 {
-        return a2 < b2;
-    }
-    tie_before(width, a, b)
-}
-
-// A cell's key as one number, k1 in its upper half: keys are ordered as these numbers are, and one test compares two.
-fn key_of(k1: &[u32], k2: &[u32], cell: usize) -> u64
-    requires { (cell < length k1.now) × (length k2.now ≡ length k1.now) }
-    ensures { KeyOf k1.now k2.now cell result }
-{
-    k1[cell] as u64 * 4294967296 + k2[cell] as u64
-}
-
-// Does cell a, under the key p, come before cell b, under the key q?
-fn key_before(width: usize, p: u64, a: usize, q: u64, b: usize) -> bool
-    requires { 0 < width }
-    ensures { result ≡ less_or p q (column_first width a b) }
-{
-    if p != q {
-        return p < q;
-    }
-    tie_before(width, a, b)
 }
 
 // Writes a cell at place i of the list, and that place at the cell.
@@ -91,11 +65,9 @@ fn lesser_under(width: usize, k1: &[u32], k2: &[u32], list: &[u16], count: usize
     let left = i + i + 1;
     let right = left + 1;
     if right < count {
-        let a = wide(list[right]);
-        let b = wide(list[left]);
-        let p = key_of(k1, k2, a);
-        let q = key_of(k1, k2, b);
-        if key_before(width, p, a, q, b) {
+        let a = Entry::of(k1, k2, usize::from(list[right]));
+        let b = Entry::of(k1, k2, usize::from(list[left]));
+        if a.comes_before(b, width) {
             return right;
         }
     }
@@ -128,16 +100,15 @@ impl<'a> Queue<'a> {
         let k2 = &mut *self.k2;
         let place = &mut *self.place;
         let list = &mut *self.list;
-        let key = key_of(k1, k2, cell);
+        let own = Entry::of(k1, k2, cell);
         let mut i = start;
         while 0 < i {
             let above = (i - 1) / 2;
-            let upper = wide(list[above]);
-            let upper_key = key_of(k1, k2, upper);
-            if !key_before(width, key, cell, upper_key, upper) {
+            let upper = Entry::of(k1, k2, usize::from(list[above]));
+            if !own.comes_before(upper, width) {
                 return i;
             }
-            stand(place, list, i, upper);
+            stand(place, list, i, upper.cell);
             i = above;
         }
         i
@@ -157,16 +128,15 @@ impl<'a> Queue<'a> {
         let k2 = &mut *self.k2;
         let place = &mut *self.place;
         let list = &mut *self.list;
-        let key = key_of(k1, k2, cell);
+        let own = Entry::of(k1, k2, cell);
         let mut i = start;
         while i + i + 1 < count {
             let under = lesser_under(width, k1, k2, list, count, i);
-            let lesser = wide(list[under]);
-            let lesser_key = key_of(k1, k2, lesser);
-            if !key_before(width, lesser_key, lesser, key, cell) {
+            let lesser = Entry::of(k1, k2, usize::from(list[under]));
+            if !lesser.comes_before(own, width) {
                 return i;
             }
-            stand(place, list, i, lesser);
+            stand(place, list, i, lesser.cell);
             i = under;
         }
         i
@@ -217,7 +187,7 @@ impl<'a> Queue<'a> {
         ensures changed { ChangedIn self.old self.new cell first second true }
         ensures entry_kept { EntryKeptIn self.old self.new }
     {
-        let i = wide(self.place[cell]);
+        let i = usize::from(self.place[cell]);
         self.k1[cell] = first;
         self.k2[cell] = second;
         let j = self.settle(i, cell);
@@ -236,9 +206,9 @@ impl<'a> Queue<'a> {
         ensures count { self.new.count + 1 ≡ self.old.count }
         ensures changed { ChangedIn self.old self.new cell 0 0 false }
     {
-        let i = wide(self.place[cell]);
+        let i = usize::from(self.place[cell]);
         let last = self.count - 1;
-        let moved = wide(self.list[last]);
+        let moved = usize::from(self.list[last]);
         self.count = last;
         self.k1[cell] = 0;
         self.k2[cell] = 0;
@@ -257,7 +227,19 @@ pub fn least(list: &[u16]) -> usize
     requires { 0 < length list.now }
     ensures { LeastOf list.now result }
 {
-    wide(list[0])
+    usize::from(list[0])
+}
+
+// Does the entry above place i of the list name a cell, which cell c, the one at i, does not come before?
+fn above_holds(width: usize, k1: &[u32], k2: &[u32], list: &[u16], c: usize, i: usize) -> bool
+    requires width_nonzero { 0 < width }
+    requires lengths { (length k1.now ≡ length list.now) × (length k2.now ≡ length list.now) }
+    requires cell { (c ≡ get_or list.now i 0) × (c < length list.now) }
+    requires i_in_bounds { (0 < i) × (i < length list.now) }
+    ensures { Decides result (Above width (length list.now) k1.now k2.now list.now i) }
+{
+    let d = usize::from(list[(i - 1) / 2]);
+    d < list.len() && !Entry::of(k1, k2, c).comes_before(Entry::of(k1, k2, d), width)
 }
 
 // Does place i of the list obey the rules of a true heap?
@@ -275,24 +257,13 @@ pub fn entry_holds(
     requires i_in_bounds { i < length list.now }
     ensures { Decides result (EntryRule width (length list.now) count k1.now k2.now place.now list.now i) }
 {
-    let c = wide(list[i]);
+    let c = usize::from(list[i]);
     if count <= i {
-        return c == ABSENT as usize;
+        return list[i] == ABSENT;
     }
-    if list.len() <= c {
-        return false;
-    }
-    if wide(place[c]) != i {
-        return false;
-    }
-    if i == 0 {
-        return true;
-    }
-    let d = wide(list[(i - 1) / 2]);
-    if list.len() <= d {
-        return false;
-    }
-    !cell_before(width, k1, k2, c, d)
+    c < list.len()
+        && usize::from(place[c]) == i
+        && (i == 0 || above_holds(width, k1, k2, list, c, i))
 }
 
 // Is cell c absent from the queue, and are both its key numbers 0?
@@ -300,13 +271,7 @@ pub fn absent_holds(k1: &[u32], k2: &[u32], place: &[u16], c: usize) -> bool
     requires { (c < length k1.now) × (c < length k2.now) × (c < length place.now) }
     ensures { Decides result (AbsentRule k1.now k2.now place.now c) }
 {
-    if place[c] != ABSENT {
-        return false;
-    }
-    if k1[c] != 0 {
-        return false;
-    }
-    k2[c] == 0
+    place[c] == ABSENT && k1[c] == 0 && k2[c] == 0
 }
 
 // Has cell c a used place of the list, and is it named there?
@@ -314,9 +279,6 @@ pub fn queued_holds(place: &[u16], list: &[u16], count: usize, c: usize) -> bool
     requires { (c < length place.now) × (count ≤ length list.now) }
     ensures { Decides result (QueuedRule count place.now list.now c) }
 {
-    let i = wide(place[c]);
-    if count <= i {
-        return false;
-    }
-    wide(list[i]) == c
+    let i = usize::from(place[c]);
+    i < count && usize::from(list[i]) == c
 }

@@ -7,33 +7,33 @@ use Rattle.queue.proofs.SiftLaws.{reshaped}
 use Rattle.queue.proofs.HoleLaws.{own_key, other_key, first_before, may_pass, passed, rises, risen}
 use Rattle.queue.proofs.Queue.sift_up.Goals as goal
 
-pub key_of-key-requires : goal.key_of-key-requires
-key_of-key-requires c = own_key c.requires.held
+pub of-own-requires : goal.of-own-requires
+of-own-requires c = own_key c.requires.held
 
-pub key_of-upper_key-requires : goal.key_of-upper_key-requires
-key_of-upper_key-requires c = let l = c.loop-i.invariant in
+pub of-upper-requires : goal.of-upper-requires
+of-upper-requires c = let l = c.loop-i.invariant in
     let u = above c.loop-i-test.true in
-    other_key l.held (above_inside u l.held.inside) (λ e. omega (arith, u.low)) c.wide-upper.ensures
+    other_key l.held (above_inside u l.held.inside) (λ e. omega (arith, u.low)) c.from.ensures
 
-pub returns-then-not-key_before-clause-sifted : goal.returns-then-not-key_before-clause-sifted
-returns-then-not-key_before-clause-sifted c = let l = c.loop-i.invariant in
+pub returns-then-not-comes_before-clause-sifted : goal.returns-then-not-comes_before-clause-sifted
+returns-then-not-comes_before-clause-sifted c = let l = c.loop-i.invariant in
     let u = above c.loop-i-test.true in
     reshaped l (risen (before_order _ _ _) l.shape (stay_under (before_order _ _ _) l.shape.loose u
-    ((let u = above c.loop-i-test.true in first_before c.loop-i.invariant.held (above_inside u c.loop-i.invariant.held.inside) (λ e. omega (arith, u.low)) c.wide-upper.ensures
-    (c.key_of-key.ensures) c.key_of-upper_key.ensures c.key_before.ensures) ∙ c.if-not-key_before.true)))
+    ((let u = above c.loop-i-test.true in first_before c.loop-i.invariant.held (above_inside u c.loop-i.invariant.held.inside) (λ e. omega (arith, u.low)) c.from.ensures
+    c.of-own.ensures c.of-upper.ensures c.comes_before.ensures) ∙ c.if-not-comes_before.true)))
 
 pub stand-requires : goal.stand-requires
 stand-requires c = let l = c.loop-i.invariant in
     let u = above c.loop-i-test.true in
-    may_pass l.held (above_inside u l.held.inside) (λ e. omega (arith, u.low)) c.wide-upper.ensures
+    may_pass l.held (above_inside u l.held.inside) (λ e. omega (arith, u.low)) (c.of-upper.ensures.cell ∙ c.from.ensures)
 
 pub loop-i-preserved : goal.loop-i-preserved
 loop-i-preserved c = let l = c.loop-i.invariant in
     let u = above c.loop-i-test.true in
     let b = above_inside u l.held.inside in
-    let s = passed l.held b (λ e. omega (arith, u.low)) c.wide-upper.ensures c.stand.ensures.place_after c.stand.ensures.list_after in
-    let moves = (let u = above c.loop-i-test.true in first_before c.loop-i.invariant.held (above_inside u c.loop-i.invariant.held.inside) (λ e. omega (arith, u.low)) c.wide-upper.ensures
-    (c.key_of-key.ensures) c.key_of-upper_key.ensures c.key_before.ensures) ∙ c.if-not-key_before.false in
+    let s = passed l.held b (λ e. omega (arith, u.low)) (c.of-upper.ensures.cell ∙ c.from.ensures) c.stand.ensures.place_after c.stand.ensures.list_after in
+    let moves = (let u = above c.loop-i-test.true in first_before c.loop-i.invariant.held (above_inside u c.loop-i.invariant.held.inside) (λ e. omega (arith, u.low)) c.from.ensures
+    c.of-own.ensures c.of-upper.ensures c.comes_before.ensures) ∙ c.if-not-comes_before.false in
     record {
       held = s.0;
       membership = s.1 ∙ l.membership;
