@@ -1,11 +1,12 @@
 -- The cells of a way: how they are written one by one, and how many bytes they take.
-use mathlib.Core.Path.{◌≡◌, refl, sym, ap, ◌∙◌}
+use mathlib.Core.Path.{◌≡◌, refl, sym, ap, subst, ◌∙◌}
 use mathlib.Core.List.{List, [], ◌∷◌, ◌++◌, append_assoc, append-nil}
 use Prim.Native.Nat.{ℕ, zero, suc, ◌+◌, ◌*◌, ◌≤◌, ◌<◌}
 use native.Mathlib.Numerals.{add-one}
 use native.Mathlib.Omega.{arith}
 use lib.ListN.{length, take, get_or, length-append}
 use lib.Seq.{take-suc}
+use Rattle.std.proofs.Common.{take_all}
 use Rattle.text.specs.Text.{bytes, decimal}
 use Rattle.text.specs.Put.{Put}
 use Rattle.text.proofs.DecimalLaws.{digits_few}
@@ -33,6 +34,10 @@ cells_few way zero small = omega arith
 cells_few [] (suc k) small = omega arith
 cells_few (s ∷ way) (suc k) small =
     omega (arith, length-append (bytes " " ++ decimal s) (spaced (take k way)), cell_few s (small 0), cells_few way k (λ i. small (suc i)))
+
+-- So for all the cells of a list.
+pub way_few : (way : List ℕ) → ((i : ℕ) → get_or way i 0 < 65536) → length (spaced way) ≤ 6 * length way
+way_few way small = subst (λ (l : List ℕ). length (spaced l) ≤ 6 * length way) (take_all (length way) way (omega arith)) (cells_few way (length way) small)
 
 -- A space and the next cell put behind the cells before it.
 pub put_cell : {b m c a : List ℕ} {at r e q : ℕ} (way : List ℕ) (i : ℕ) → i < length way → Put b at (spaced (take i way)) r m → Put m r (bytes " ") e c → Put c e (decimal (get_or way i 0)) q a

@@ -1,2 +1,1 @@
 pub mod CellLaws
-pub mod AnswerLaws
