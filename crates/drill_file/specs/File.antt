@@ -1,12 +1,12 @@
 -- The drill file. "From the front: 4N plan bytes, then actions of 5 bytes, then a trailer of 12 bytes that points back."
-use Rattle.std.specs.Prelude.{Bool, true, false, List, [], ◌∷◌, ℕ, zero, suc, ◌+◌, ◌*◌, ◌-◌, ◌≤◌, length, get_or}
+use Rattle.std.specs.Prelude.{Option, None, Some, Bool, true, false, List, [], ◌∷◌, ℕ, zero, suc, ◌+◌, ◌*◌, ◌-◌, ◌≤◌, length, get_or}
 use Rattle.std.proofs.Math.Bool.{Bool-discrete}
 use Rattle.std.proofs.Math.Logic.Dec
 use Rattle.std.proofs.Math.Decide.{ℕ_discrete, dec_le}
 use Rattle.decide.specs.Choose.{choose}
 use Rattle.plan.specs.Cells.{Size}
 use Rattle.drill_file.specs.declared.Action.{Action}
-use Rattle.drill_file.specs.declared.Action.TheVariants.{Change, Hunter, Target, Search, Bad}
+use Rattle.drill_file.specs.declared.Action.TheVariants.{Change, Hunter, Target, Search}
 use Rattle.drill_file.specs.declared.Trailer.{Trailer}
 
 -- A number of two bytes, and of four, "low byte first".
@@ -42,48 +42,37 @@ trailer_in file = choose (dec_le 12 (length file)) (trailer_of file) no_trailer
 abbrev pub cells : Trailer → ℕ
 cells t = t.height * t.width
 
--- "Kinds: 1 change, 2 hunter, 3 target, 4 search. Kinds 2 and 3 have direction and cost 0; kind 4 has all four bytes 0. An action against this is badly formed."
-unfoldable pub action_of : ℕ → ℕ → ℕ → ℕ → Action
+-- "Kinds: 1 change, 2 hunter, 3 target, 4 search. Kinds 2 and 3 have direction and cost 0; kind 4 has all four bytes 0. An action against this is badly formed": then there is none.
+unfoldable pub action_of : ℕ → ℕ → ℕ → ℕ → Option Action
 action_of kind cell d cost =
-    choose (ℕ_discrete kind 1) (Change cell d cost)
+    choose (ℕ_discrete kind 1) (Some (Change cell d cost))
     (choose (Dec.and (ℕ_discrete d 0) (ℕ_discrete cost 0))
-    (choose (ℕ_discrete kind 2) (Hunter cell)
-    (choose (ℕ_discrete kind 3) (Target cell)
-    (choose (Dec.and (ℕ_discrete kind 4) (ℕ_discrete cell 0)) Search
-    Bad)))
-    Bad)
+    (choose (ℕ_discrete kind 2) (Some (Hunter cell))
+    (choose (ℕ_discrete kind 3) (Some (Target cell))
+    (choose (Dec.and (ℕ_discrete kind 4) (ℕ_discrete cell 0)) (Some Search)
+    None)))
+    None)
 
 -- "Action: kind 1, cell 2, direction 1, cost 1": the action at a place of the file; past the end there is none.
-unfoldable pub action_at : List ℕ → ℕ → Action
+unfoldable pub action_at : List ℕ → ℕ → Option Action
 action_at file at =
     choose (dec_le (at + 5) (length file)) (action_of (get_or file at 0) (two file (at + 1)) (get_or file (at + 3) 0) (get_or file (at + 4) 0))
-    Bad
+    None
 
--- So many actions from a place on.
-unfoldable pub actions_from : List ℕ → ℕ → ℕ → List Action
+-- So many actions from a place on, none where one is badly formed.
+unfoldable pub actions_from : List ℕ → ℕ → ℕ → List (Option Action)
 actions_from file at zero = []
 actions_from file at (suc n) = action_at file at ∷ actions_from file (at + 5) n
 
 -- The actions of a file.
-abbrev pub actions_of : List ℕ → List Action
+abbrev pub actions_of : List ℕ → List (Option Action)
 actions_of file = actions_from file (trailer_of file).offset (trailer_of file).actions
 
--- Whether an action is badly formed.
-unfoldable pub is_bad : Action → Bool
-is_bad Bad = true
-is_bad (Change u d cost) = false
-is_bad (Hunter s) = false
-is_bad (Target s) = false
-is_bad Search = false
-
 -- No action is badly formed.
-unfoldable pub well_formed : List Action → Bool
+unfoldable pub well_formed : List (Option Action) → Bool
 well_formed [] = true
-well_formed (Bad ∷ l) = false
-well_formed (Change u d cost ∷ l) = well_formed l
-well_formed (Hunter s ∷ l) = well_formed l
-well_formed (Target s ∷ l) = well_formed l
-well_formed (Search ∷ l) = well_formed l
+well_formed (None ∷ l) = false
+well_formed (Some a ∷ l) = well_formed l
 
 -- Whether width and height are each 1 to 64.
 unfoldable pub is_size : (width height : ℕ) → Dec (Size width height)

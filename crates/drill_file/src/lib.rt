@@ -2,12 +2,21 @@
 #![tactic(auto)]
 
 ghost use Rattle.std.specs.Prelude.{◌≡◌, ◌+◌, ◌*◌, ◌≤◌, ◌<◌, ◌^◌, length};
-ghost use Rattle.drill_file.specs.File.{two, trailer_of, trailer_in, action_of, action_at, actions_from, is_bad, well_formed, form_number, cells_told};
+ghost use Rattle.refusal.specs.Numbers.{number_in};
+ghost use Rattle.drill_file.specs.File.{two, trailer_of, trailer_in, action_of, action_at, actions_from, well_formed, form_number, cells_told};
 
 use plan;
+use refusal::Refusal;
+
+// The greatest length of a drill file, and the lengths of an action and of the trailer.
+pub const GREATEST_FILE: usize = 65536;
+
+pub const ACTION: usize = 5;
+
+pub const TRAILER: usize = 12;
 
 // What the last 12 bytes say.
-#[derive(Clone, Copy)]
+#[derive(Clone, Copy, Default)]
 pub struct Trailer {
     pub width: usize,
     pub height: usize,
@@ -17,14 +26,17 @@ pub struct Trailer {
     pub offset: usize,
 }
 
-// A change of cell, direction and cost; the hunter or the target placed on a cell; a search; or badly formed.
+// A change of cell, direction and cost; the hunter or the target placed on a cell; or a search.
 #[derive(Clone, Copy)]
 pub enum Action {
-    Change(usize, usize, u8),
+    Change {
+        cell: usize,
+        direction: usize,
+        cost: u8,
+    },
     Hunter(usize),
     Target(usize),
     Search,
-    Bad,
 }
 
 // A number of two bytes, low byte first.
@@ -32,9 +44,7 @@ fn two_at(file: &[u8], at: usize) -> usize
     requires { at + 2 ≤ length file.now }
     ensures { result ≡ two file.now at }
 {
-    let low = file[at] as usize;
-    let high = file[at + 1] as usize;
-    low + 256 * high
+    usize::from(u16::from_le_bytes([file[at], file[at + 1]]))
 }
 
 // The trailer of a file that is long enough to have one.
@@ -42,10 +52,10 @@ fn trailer_of(file: &[u8]) -> Trailer
     requires { 12 ≤ length file.now }
     ensures { result ≡ trailer_of file.now }
 {
-    let at = file.len() - 12;
+    let at = file.len() - TRAILER;
     Trailer {
-        width: file[at] as usize,
-        height: file[at + 1] as usize,
+        width: usize::from(file[at]),
+        height: usize::from(file[at + 1]),
         hunter: two_at(file, at + 2),
         target: two_at(file, at + 4),
         actions: two_at(file, at + 6),
@@ -54,59 +64,42 @@ fn trailer_of(file: &[u8]) -> Trailer
 }
 
 // The trailer of a file, whatever it is: zeros where it is too short to have one. The runner calls this once for a file, and passes the trailer along.
+#[tactic(auto, using(crate::proofs::FileLaws::trailer_long, crate::proofs::FileLaws::trailer_short))]
 pub fn trailer_in(file: &[u8]) -> Trailer
     ensures { result ≡ trailer_in file.now }
 {
-    if file.len() < 12 {
-        return Trailer {
-            width: 0,
-            height: 0,
-            hunter: 0,
-            target: 0,
-            actions: 0,
-            offset: 0,
-        };
+    if file.len() < TRAILER {
+        Trailer::default()
+    } else {
+        trailer_of(file)
     }
-    trailer_of(file)
 }
 
-// The action that its parts say.
-fn action_of(kind: u8, cell: usize, d: u8, cost: u8) -> Action
-    ensures { result ≡ action_of kind cell d cost }
+// The action that its parts say; none where they are badly formed.
+#[tactic(auto, using(crate::proofs::FileLaws::said))]
+fn action_of(kind: u8, cell: usize, direction: u8, cost: u8) -> Option<Action>
+    ensures { result ≡ action_of kind cell direction cost }
 {
-    if kind == 1 {
-        return Action::Change(cell, d as usize, cost);
+    match (kind, cell, direction, cost) {
+        (1, _, _, _) => Some(Action::Change {
+            cell,
+            direction: usize::from(direction),
+            cost,
+        }),
+        (2, _, 0, 0) => Some(Action::Hunter(cell)),
+        (3, _, 0, 0) => Some(Action::Target(cell)),
+        (4, 0, 0, 0) => Some(Action::Search),
+        _ => None,
     }
-    if d != 0 {
-        return Action::Bad;
-    }
-    if cost != 0 {
-        return Action::Bad;
-    }
-    if kind == 2 {
-        return Action::Hunter(cell);
-    }
-    if kind == 3 {
-        return Action::Target(cell);
-    }
-    if kind != 4 {
-        return Action::Bad;
-    }
-    if cell != 0 {
-        return Action::Bad;
-    }
-    Action::Search
 }
 
-// The action at a place of a file.
-fn action_at(file: &[u8], at: usize) -> Action
+// The action at a place of a file; none where it is badly formed or the file ends before it does.
+#[tactic(auto, using(crate::proofs::FileLaws::action_past, crate::proofs::FileLaws::action_there))]
+fn action_at(file: &[u8], at: usize) -> Option<Action>
     ensures { result ≡ action_at file.now at }
 {
-    if file.len() < 5 {
-        return Action::Bad;
-    }
-    if file.len() - 5 < at {
-        return Action::Bad;
+    if file.len() < ACTION || file.len() - ACTION < at {
+        return None;
     }
     action_of(file[at], two_at(file, at + 1), file[at + 3], file[at + 4])
 }
@@ -118,46 +111,38 @@ pub struct Reader<'a> {
     pub at: usize,
 }
 
-// A reader at a place of a file.
-pub fn reading<'a>(file: &'a [u8], at: usize) -> Reader<'a>
-    ensures { (result.file ≡ file.entry) × (result.at ≡ at) }
-{
-    Reader { file, at }
-}
-
-// The action at the reader's place.
-pub fn next<'a>(r: Reader<'a>) -> Action
-    ensures { result ≡ action_at r.entry.file.now r.entry.at }
-{
-    action_at(r.file, r.at)
-}
-
-// The reader past one action.
-pub fn moved<'a>(r: Reader<'a>) -> Reader<'a>
-    requires { r.at + 5 < 2 ^ 64 }
-    ensures { (result.file ≡ r.entry.file) × (result.at ≡ r.entry.at + 5) }
-{
-    Reader {
-        file: r.file,
-        at: r.at + 5,
+impl<'a> Reader<'a> {
+    // A reader at a place of a file.
+    pub fn new(file: &'a [u8], at: usize) -> Reader<'a>
+        ensures { (result.file ≡ file.entry) × (result.at ≡ at) }
+    {
+        Reader { file, at }
     }
-}
 
-// The reader at another place of its file.
-pub fn moved_to<'a>(r: Reader<'a>, at: usize) -> Reader<'a>
-    ensures { (result.file ≡ r.entry.file) × (result.at ≡ at) }
-{
-    Reader { file: r.file, at }
-}
-
-// Is an action badly formed?
-fn is_bad(action: Action) -> bool
-    ensures { result ≡ is_bad action }
-{
-    if let Action::Bad = action {
-        return true;
+    // The action at the reader's place; none where it is badly formed.
+    pub fn next(self) -> Option<Action>
+        ensures { result ≡ action_at self.entry.file.now self.entry.at }
+    {
+        action_at(self.file, self.at)
     }
-    false
+
+    // The reader past one action.
+    pub fn moved(self) -> Reader<'a>
+        requires { self.at + 5 < 2 ^ 64 }
+        ensures { (result.file ≡ self.entry.file) × (result.at ≡ self.entry.at + 5) }
+    {
+        self.moved_to(self.at + ACTION)
+    }
+
+    // The reader at another place of its file.
+    pub fn moved_to(self, at: usize) -> Reader<'a>
+        ensures { (result.file ≡ self.entry.file) × (result.at ≡ at) }
+    {
+        Reader {
+            file: self.file,
+            at,
+        }
+    }
 }
 
 // Is none of so many actions from a place on badly formed? One reader goes through them.
@@ -165,51 +150,44 @@ pub fn well_formed(file: &[u8], from: usize, actions: usize) -> bool
     requires { from + 5 * actions ≤ length file.now }
     ensures { result ≡ well_formed (actions_from file.now from actions) }
 {
-    let mut r = reading(file, from);
-    let mut left = actions;
-    while 0 < left {
-        if is_bad(next(r)) {
+    let mut reader = Reader::new(file, from);
+    for _ in 0..actions {
+        if reader.next().is_none() {
             return false;
         }
-        r = moved(r);
-        left -= 1;
+        reader = reader.moved();
     }
     true
 }
 
-// The number of the first rule that the form of a file breaks, 0 if none; its trailer is passed along.
-pub fn form(file: &[u8], t: Trailer) -> u8
+// Refuses by the first rule that the form of a file breaks; its trailer is passed along.
+pub fn check_form(file: &[u8], t: Trailer) -> Result<(), Refusal>
     requires { t ≡ trailer_in file.now }
-    ensures { result ≡ form_number file.now }
+    ensures { number_in result ≡ form_number file.now }
 {
-    if file.len() < 12 {
-        return 8;
-    }
-    if 65536 < file.len() {
-        return 8;
+    if file.len() < TRAILER || GREATEST_FILE < file.len() {
+        return Err(Refusal::File);
     }
     if !plan::is_size(t.width, t.height) {
-        return 1;
+        return Err(Refusal::Size);
     }
     let plan_bytes = 4 * (t.height * t.width);
-    if t.offset != plan_bytes {
-        return 8;
-    }
-    if file.len() != t.offset + 5 * t.actions + 12 {
-        return 8;
+    if t.offset != plan_bytes || file.len() != t.offset + ACTION * t.actions + TRAILER {
+        return Err(Refusal::File);
     }
     if !well_formed(file, t.offset, t.actions) {
-        return 8;
+        return Err(Refusal::File);
     }
-    0
+    Ok(())
 }
 
 // The number of cells that a trailer tells, 0 where it has no right size.
 pub fn cells_told(t: Trailer) -> usize
     ensures { result ≡ cells_told t }
 {
-    if !plan::is_size(t.width, t.height) {
-        return 0;
+    if plan::is_size(t.width, t.height) {
+        t.height * t.width
+    } else {
+        0
     }
-    t.height * t.width
 }
