@@ -5,7 +5,7 @@ ghost use Rattle.std.specs.Prelude.{◌≡◌, ◌+◌, ◌<◌, ◌≤◌, get_
 ghost use Rattle.method.specs.Numbers.{infinite};
 ghost use Rattle.method.specs.Tables.{least_over, anew as anew_of, found_anew};
 ghost use Rattle.method.specs.Session.{fresh as fresh_of};
-ghost use Rattle.plan.specs.Costs.{plan_of};
+ghost use Rattle.plan.specs.Floors.{floor_plan};
 ghost use Rattle.plan.specs.Grid.{into_by};
 ghost use Rattle.plan.specs.Reached.{Placed, between};
 ghost use Rattle.tables.specs.Lent.{lent, SameTables, frame, frame_of_size, Fits, graph_in, core};
@@ -15,7 +15,7 @@ ghost use Rattle.entries.specs.Became.{Became, EnteringIn, Entered, KeptIn, Taki
 ghost use Rattle.entries.specs.Parents.{Named, Linked};
 
 use plan;
-use plan::Spot;
+use plan::{Floor, Spot};
 use queue;
 use queue::Queue;
 use tables;
@@ -126,19 +126,11 @@ pub fn take(
 }
 
 // One more neighbour is looked at: its move is taken if it gives a smaller sum.
-fn looked_at(
-    width: usize,
-    height: usize,
-    plan: &[u8],
-    g: &[u32],
-    s: usize,
-    best: Found,
-    d: usize,
-) -> Found
-    requires { Findable width height plan.now g.now s × (d < 4) }
-    ensures { found_of result ≡ least_over g.now (found_of best) (into_by (plan_of width height plan.now) s d) }
+fn looked_at(floor: Floor, g: &[u32], s: usize, best: Found, d: usize) -> Found
+    requires { Findable floor.width floor.height floor.plan.now g.now s × (d < 4) }
+    ensures { found_of result ≡ least_over g.now (found_of best) (into_by (floor_plan floor.entry) s d) }
 {
-    let Some(reach) = plan::move_into(width, height, plan, s, d) else {
+    let Some(reach) = floor.move_into(s, d) else {
         return best;
     };
     let sum = g[reach.cell].saturating_add(reach.cost as u32);
@@ -156,12 +148,17 @@ pub fn anew(a: Aim, plan: &[u8], g: &[u32], s: usize) -> Found
     requires { Findable a.width a.height plan.now g.now s }
     ensures { found_of result ≡ anew_of (graph_in (frame_of a) plan.now) g.now s }
 {
+    let floor = Floor {
+        width: a.width,
+        height: a.height,
+        plan,
+    };
     let mut best = Found {
         rhs: tables::INFINITE,
         parent: 0,
     };
     for d in 0..4 {
-        best = looked_at(a.width, a.height, plan, g, s, best, d);
+        best = looked_at(floor, g, s, best, d);
     }
     best
 }

@@ -9,7 +9,7 @@ use Rattle.entries.specs.Became.{found_of}
 use Rattle.entries.proofs.anew.Given as goal
 
 abbrev pub invariant-loop-d : goal.invariant-loop-d
-invariant-loop-d l = (l.d ≤ 4) × (found_of l.best ≡ least_over l.g (found infinite 0) (up_to (into_by (floor l.a l.plan) l.s) l.d))
+invariant-loop-d l = (l.d ≤ 4) × (found_of l.best ≡ least_over l.g (found infinite 0) (up_to (into_by (floor l.fn.a l.plan) l.s) l.d))
 
 abbrev pub decreases-loop-d : goal.decreases-loop-d
 decreases-loop-d l = 4 - l.d
