@@ -2,20 +2,21 @@
 use mathlib.Core.Path.{◌≡◌, refl, sym, ap, ◌∙◌}
 use mathlib.Core.Logic.{◌≢◌}
 use Prim.Native.Nat.{ℕ, zero, suc, ◌<◌}
+use native.Mathlib.Omega.{arith}
+use Rattle.std.specs.Prelude.{Result, Ok, Err}
+use Rattle.refusal.specs.declared.Refusal.{Refusal}
+use Rattle.refusal.specs.Numbers.{number_of, number_in}
+use Rattle.refusal.proofs.NumberLaws.{refusal_of, refusal_is, numbered}
 use Rattle.decide.specs.Ruled.{holds, Passed}
 use Rattle.decide.proofs.RuledLaws.{passed_one, ruled_one, granted, passed_zero, onward, further, passed_not}
 use Rattle.plan.specs.Cells.{Size}
 use Rattle.tables.specs.declared.Session.{Session}
 use Rattle.tables.specs.Lent.{Tables, frame_of_size, cells}
 use Rattle.tables.specs.Sound.{Sound}
-use Rattle.tables.specs.Told.{Name, done, caught, none_leads, way, refusal, told_done, told_refusal, told_number}
+use Rattle.tables.specs.Told.{Told, told_refusal, told_number}
 use Rattle.tables.proofs.SoundLaws.{sound_fits}
 use Rattle.entries.specs.Begin.{Openable}
-use Rattle.session.specs.declared.Answer.{Answer}
-use Rattle.session.specs.declared.Answer.TheVariants.{Done, Refused}
-use Rattle.session.specs.declared.Reply.{Reply}
 use Rattle.session.specs.Refusals.{told_by, PlaceRules, OpenRules, TableRules}
-use Rattle.session.specs.Promises.{Places}
 
 -- ---- what is told
 
@@ -23,47 +24,39 @@ pub refusal_told : (n : ℕ) → n ≢ 0 → told_refusal n ≡ told_number n
 refusal_told zero h = absurd (h refl)
 refusal_told (suc n) h = refl
 
-pub done_told : (n : ℕ) → n ≡ 0 → told_done ≡ told_number n
-done_told n e = sym (ap told_number e)
+number_told : (n : ℕ) → (told_number n).number ≡ n
+number_told zero = refl
+number_told (suc n) = refl
 
--- The answer with this name and number ..
-named : Name → ℕ → Answer
-named refusal n = Refused n
-named done n = Done
-named caught n = Done
-named none_leads n = Done
-named way n = Done
+-- An answer tells its number ..
+pub told_in : (a : Result Unit Refusal) → told_by a ≡ told_number (number_in a)
+told_in (Ok _) = refl
+told_in (Err r) = refusal_told (number_of r) (λ z. omega (arith, numbered r, z))
 
--- .. is the one that tells them.
-named_told : (a : Answer) → a ≡ named (told_by a).name (told_by a).number
-unfolding named
-named_told Done = refl
-named_told (Refused n) = refl
+-- .. and no other.
+pub number_is : (a : Result Unit Refusal) (n : ℕ) → told_by a ≡ told_number n → number_in a ≡ n
+number_is a n e = sym (number_told (number_in a)) ∙ ap (λ (x : Told). x.number) (sym (told_in a) ∙ e) ∙ number_told n
 
--- Two answers told alike are one ..
-pub told_alike : (a b : Answer) → told_by a ≡ told_by b → a ≡ b
-told_alike a b e = named_told a ∙ ap (λ x. named x.name x.number) e ∙ sym (named_told b)
+-- The answer that tells a number, as the code returns it ..
+abbrev pub answered : ℕ → Result Unit Refusal
+answered zero = Ok tt
+answered (suc k) = Err (refusal_of (suc k))
 
--- .. so an answer told by its number is the number's, as the code returns it.
-abbrev pub answered : ℕ → Answer
-answered zero = Done
-answered (suc k) = Refused (suc k)
+refused_in : (n : ℕ) → 0 < n → answered n ≡ Err (refusal_of n)
+refused_in zero l = absurd (omega arith)
+refused_in (suc k) l = refl
 
-answered_told : (n : ℕ) → told_number n ≡ told_by (answered n)
-answered_told zero = refl
-answered_told (suc n) = refl
+answered_in : (a : Result Unit Refusal) → a ≡ answered (number_in a)
+answered_in (Ok _) = refl
+answered_in (Err r) = sym (refused_in (number_of r) (numbered r) ∙ ap Err (refusal_is r))
 
-pub answer_is : (a : Answer) (n : ℕ) → told_by a ≡ told_number n → a ≡ answered n
-answer_is a n e = told_alike a (answered n) (e ∙ answered_told n)
+-- .. is the only one.
+pub answer_is : (a : Result Unit Refusal) (n : ℕ) → told_by a ≡ told_number n → a ≡ answered n
+answer_is a n e = answered_in a ∙ ap answered (number_is a n e)
 
--- ---- a placing's reply, by the number of its rules
-
--- Refused: the record as it came. Done: the record with the cell placed.
-pub placing_refused : {s placed : Session} {cell number : ℕ} {r : Reply} → r.session ≡ s → r.answer ≡ Refused number → PlaceRules s cell number → number ≢ 0 → Places s placed cell r
-placing_refused {number = n} e a rules k = record { number = n; rules = rules; answer = ap told_by a ∙ refusal_told n k; refused = λ _. e; done = λ z. absurd (k z) }
-
-pub placing_done : {s placed : Session} {cell number : ℕ} {r : Reply} → r.session ≡ placed → r.answer ≡ Done → PlaceRules s cell number → number ≡ 0 → Places s placed cell r
-placing_done {number = n} e a rules z = record { number = n; rules = rules; answer = ap told_by a ∙ done_told n z; refused = λ k. absurd (k z); done = λ _. e }
+-- Two answers told alike are one.
+pub told_alike : (a b : Result Unit Refusal) → told_by a ≡ told_by b → a ≡ b
+told_alike a b e = answer_is a (number_in b) (e ∙ told_in b) ∙ sym (answered_in b)
 
 -- ---- one number
 

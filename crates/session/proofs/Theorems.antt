@@ -2,11 +2,14 @@
 use mathlib.Core.Path.{◌≡◌, refl, sym, ap, subst, ◌∙◌}
 use mathlib.Core.Bool.{Bool, false}
 use mathlib.Core.List.{List}
-use Prim.Native.Nat.{ℕ, zero, suc, ◌≤◌, ◌<◌}
+use Prim.Native.Nat.{ℕ, ◌≤◌, ◌<◌}
 use native.Mathlib.Omega.{arith}
 use native.Mathlib.Decide.{ℕ_discrete, dec_lt}
 use lib.ListN.{get_or, get_or-eq_default}
 use lib.Seq.{ext_get_or}
+use Rattle.std.specs.Prelude.{Result, Ok}
+use Rattle.refusal.specs.declared.Refusal.{Refusal}
+use Rattle.refusal.specs.Numbers.{number_in}
 use Rattle.method.specs.Tables as method
 use Rattle.method.specs.Session.{opened}
 use Rattle.method.specs.Sound as method_sound
@@ -19,13 +22,13 @@ use Rattle.plan.specs.Costs.{Obeys}
 use Rattle.tables.specs.declared.Session.{Session}
 use Rattle.tables.specs.Lent.{Tables, Frame, tables, frame_of_size, cells, floor_in, graph_in, core}
 use Rattle.tables.specs.Sound.{Sound}
+use Rattle.tables.specs.Told.{told_number}
 use Rattle.tables.proofs.FrameLaws.{graph_in_laws}
 use Rattle.entries.specs.Begin.{Openable, begun, Opened}
-use Rattle.session.specs.declared.Answer.{Answer}
-use Rattle.session.specs.declared.Answer.TheVariants.{Done}
 use Rattle.session.specs.declared.Reply.{Reply}
+use Rattle.session.specs.Refusals.{told_by}
 use Rattle.session.specs.Promises.{hunter_at, target_at, Places, Opens, Names, Alike}
-use Rattle.session.proofs.RefusalLaws.{answered, answer_is, place_number, open_number_is, place_granted, open_granted, place_passes, open_passes}
+use Rattle.session.proofs.RefusalLaws.{answered, number_is, answer_is, place_number, open_number_is, place_granted, open_granted, place_passes, open_passes}
 
 -- ---- answers and replies
 
@@ -36,11 +39,11 @@ place_answer {r = r} P = answer_is r.answer P.number P.answer
 pub open_answer : {width height hunter target : ℕ} {t t' : Tables} {r : Reply} (P : Opens width height hunter target t r t') → r.answer ≡ answered P.number
 open_answer {r = r} P = answer_is r.answer P.number P.answer
 
-pub done_zero : (n : ℕ) → answered n ≡ Done → n ≡ 0
-done_zero zero e = refl
-done_zero (suc n) e = let z : ◌≡◌ {A = ℕ} 0 1 = cc in absurd (omega arith)
+-- An answer that is done tells 0.
+pub done_zero : (n : ℕ) {a : Result Unit Refusal} → told_by a ≡ told_number n → a ≡ Ok tt → n ≡ 0
+done_zero n {a} t e = sym (number_is a n t) ∙ ap number_in e
 
-reply : Session → Answer → Reply
+reply : Session → Result Unit Refusal → Reply
 reply s a = record { session = s; answer = a }
 
 pub same_reply : {r r' : Reply} → r.session ≡ r'.session → r.answer ≡ r'.answer → r ≡ r'
@@ -49,10 +52,10 @@ same_reply {r} {r'} e f = ap (λ x. reply x r.answer) e ∙ ap (λ x. reply r'.s
 
 -- ---- a call that no rule refuses is done
 
-pub place_done : {s placed : Session} {cell : ℕ} {r : Reply} → Places s placed cell r → Size s.width s.height → cell < cells s → (r.answer ≡ Done) × (r.session ≡ placed)
+pub place_done : {s placed : Session} {cell : ℕ} {r : Reply} → Places s placed cell r → Size s.width s.height → cell < cells s → (r.answer ≡ Ok tt) × (r.session ≡ placed)
 place_done {s} P z l = let e = place_passes s P.rules z l in (place_answer P ∙ ap answered e, P.done e)
 
-pub open_done : {width height hunter target : ℕ} {t t' : Tables} {r : Reply} → Opens width height hunter target t r t' → Openable (frame_of_size width height) hunter target t → r.answer ≡ Done
+pub open_done : {width height hunter target : ℕ} {t t' : Tables} {r : Reply} → Opens width height hunter target t r t' → Openable (frame_of_size width height) hunter target t → r.answer ≡ Ok tt
 open_done P o = open_answer P ∙ ap answered (open_passes P.rules o)
 
 -- ---- two results of one placing
@@ -189,9 +192,9 @@ fresh_sound {f} {hunter} {target} {t} {t'} o p = record {
 }
 
 -- .. and so does an open that is done.
-pub opened_sound : {width height hunter target : ℕ} {t t' : Tables} {r : Reply} → Opens width height hunter target t r t' → r.answer ≡ Done → Sound r.session t'
+pub opened_sound : {width height hunter target : ℕ} {t t' : Tables} {r : Reply} → Opens width height hunter target t r t' → r.answer ≡ Ok tt → Sound r.session t'
 opened_sound {t' = t'} P e =
-    let z = done_zero P.number (sym (open_answer P) ∙ e) in
+    let z = done_zero P.number P.answer e in
     let p = P.done z in
     subst (λ x. Sound x t') (sym p.0) (fresh_sound (open_granted P.rules z) p.1)
 

@@ -1,5 +1,7 @@
 -- Document 01's table of refusals: for each call its rules, each with its number, in the order of checking. Here those of place, open and every call on a session's tables.
-use Rattle.std.specs.Prelude.{ℕ, ◌*◌, ◌<◌}
+use Rattle.std.specs.Prelude.{Result, Ok, Err, ℕ, ◌*◌, ◌<◌}
+use Rattle.refusal.specs.declared.Refusal.{Refusal}
+use Rattle.refusal.specs.Numbers.{number_of}
 use Rattle.decide.specs.Ruled.{Ruled, Passed}
 use Rattle.plan.specs.Cells.{Size}
 use Rattle.plan.specs.Costs.{plan_of, Bytes, Edges}
@@ -7,13 +9,11 @@ use Rattle.tables.specs.declared.Session.{Session}
 use Rattle.tables.specs.Lent.{Tables, cells, Fits}
 use Rattle.tables.specs.Sound.{Sound}
 use Rattle.tables.specs.Told.{Told, told_done, told_refusal}
-use Rattle.session.specs.declared.Answer.{Answer}
-use Rattle.session.specs.declared.Answer.TheVariants.{Done, Refused}
 
--- What an answer tells.
-abbrev pub told_by : Answer → Told
-told_by Done = told_done
-told_by (Refused n) = told_refusal n
+-- What a call's answer tells.
+abbrev pub told_by : Result Unit Refusal → Told
+told_by (Ok _) = told_done
+told_by (Err r) = told_refusal (number_of r)
 
 -- Placing a cell: "width or height not 1 to 64"; "a given cell is N or more".
 abbrev pub PlaceRules : Session → ℕ → ℕ → Type 0

@@ -2,81 +2,64 @@
 #![tactic(auto)]
 
 ghost use Rattle.decide.specs.Ruled.{Passed};
+ghost use Rattle.refusal.specs.Numbers.{number_in};
 ghost use Rattle.tables.specs.Lent.{tables};
 ghost use Rattle.session.specs.Refusals.{PlaceRules, OpenRules, TableRules};
 ghost use Rattle.session.specs.Promises.{hunter_at, target_at, Places, Opens};
 
 use entries;
 use plan;
+use refusal::Refusal;
 use tables;
+use tables::Session;
 
-// Done, or refused with document 01's number.
-#[derive(Clone, Copy)]
-pub enum Answer {
-    Done,
-    Refused(u8),
-}
-
-// What a call returns: the record as it leaves it, and the answer.
+// What a call returns: the record as it leaves it, and done or refused.
 #[derive(Clone, Copy)]
 pub struct Reply {
-    pub session: tables::Session,
-    pub answer: Answer,
+    pub session: Session,
+    pub answer: Result<(), Refusal>,
 }
 
-// The number of the first rule that placing a cell breaks, 0 if none.
-fn place_refusal(s: tables::Session, cell: usize) -> u8
-    ensures { PlaceRules s cell result }
+// Is the size one, and the cell in the plan?
+#[tactic(auto, using(decide::proofs::RuledLaws::in_order))]
+fn check_place(s: Session, cell: usize) -> Result<(), Refusal>
+    ensures { PlaceRules s cell (number_in result) }
 {
     if !plan::is_size(s.width, s.height) {
-        return 1;
+        return Err(Refusal::Size);
     }
     if s.height * s.width <= cell {
-        return 3;
+        return Err(Refusal::Cell);
     }
-    0
+    Ok(())
+}
+
+// The record with a cell placed, or as it came where the cell is refused.
+fn place(s: Session, placed: Session, cell: usize) -> Reply
+    ensures { Places s placed cell result }
+{
+    let answer = check_place(s, cell);
+    let session = if answer.is_ok() { placed } else { s };
+    Reply { session, answer }
 }
 
 // Places the hunter: one field of the record changes. The next search takes it over.
-pub fn place_hunter(s: tables::Session, cell: usize) -> Reply
+pub fn place_hunter(s: Session, cell: usize) -> Reply
     ensures { Places s (hunter_at s cell) cell result }
 {
-    let number = place_refusal(s, cell);
-    if number != 0 {
-        return Reply {
-            session: s,
-            answer: Answer::Refused(number),
-        };
-    }
-    let mut placed = s;
-    placed.hunter = cell;
-    Reply {
-        session: placed,
-        answer: Answer::Done,
-    }
+    place(s, Session { hunter: cell, ..s }, cell)
 }
 
 // Places the target: one field of the record changes. The next search takes it over.
-pub fn place_target(s: tables::Session, cell: usize) -> Reply
+pub fn place_target(s: Session, cell: usize) -> Reply
     ensures { Places s (target_at s cell) cell result }
 {
-    let number = place_refusal(s, cell);
-    if number != 0 {
-        return Reply {
-            session: s,
-            answer: Answer::Refused(number),
-        };
-    }
-    let mut placed = s;
-    placed.target = cell;
-    Reply {
-        session: placed,
-        answer: Answer::Done,
-    }
+    place(s, Session { target: cell, ..s }, cell)
 }
 
-// The number of the first rule that an open breaks, 0 if none.
-pub fn open_refusal(
+// Are the size, the tables' lengths, the cells and the plan's bytes what an open asks for?
+#[tactic(auto, using(decide::proofs::RuledLaws::in_order))]
+pub fn check_open(
     width: usize,
     height: usize,
     hunter: usize,
@@ -89,29 +72,26 @@ pub fn open_refusal(
     k2: &[u32],
     place: &[u16],
     list: &[u16],
-) -> u8
-    ensures { OpenRules width height hunter target (tables plan.now g.now rhs.now parent.now k1.now k2.now place.now list.now) result }
+) -> Result<(), Refusal>
+    ensures { OpenRules width height hunter target (tables plan.now g.now rhs.now parent.now k1.now k2.now place.now list.now) (number_in result) }
 {
     if !plan::is_size(width, height) {
-        return 1;
+        return Err(Refusal::Size);
     }
     if !tables::lengths_hold(width, height, plan, g, rhs, parent, k1, k2, place, list) {
-        return 2;
+        return Err(Refusal::Length);
     }
     let cells = height * width;
-    if cells <= hunter {
-        return 3;
-    }
-    if cells <= target {
-        return 3;
+    if cells <= hunter || cells <= target {
+        return Err(Refusal::Cell);
     }
     if !plan::edges_hold(width, height, plan) {
-        return 4;
+        return Err(Refusal::Move);
     }
     if !plan::bytes_hold(width, height, plan) {
-        return 5;
+        return Err(Refusal::Cost);
     }
-    0
+    Ok(())
 }
 
 // Opens a session on a plan: fills all other tables fresh.
@@ -131,27 +111,29 @@ pub fn open(
 ) -> Reply
     ensures { Opens width height hunter target (tables plan.now g.old rhs.old parent.old k1.old k2.old place.old list.old) result (tables plan.now g.new rhs.new parent.new k1.new k2.new place.new list.new) }
 {
-    let number = open_refusal(
+    let checked = check_open(
         width, height, hunter, target, plan, g, rhs, parent, k1, k2, place, list,
     );
-    if number != 0 {
-        let nothing = entries::placed_on(0, 0, 0, 0);
-        return Reply {
-            session: nothing,
-            answer: Answer::Refused(number),
-        };
-    }
-    let placed = entries::placed_on(width, height, hunter, target);
-    let begun = entries::begin(placed, plan, g, rhs, parent, k1, k2, place, list);
-    Reply {
-        session: begun,
-        answer: Answer::Done,
+    match checked {
+        Ok(()) => {
+            let placed = entries::placed_on(width, height, hunter, target);
+            let begun = entries::begin(placed, plan, g, rhs, parent, k1, k2, place, list);
+            Reply {
+                session: begun,
+                answer: Ok(()),
+            }
+        }
+        Err(refusal) => Reply {
+            session: entries::placed_on(0, 0, 0, 0),
+            answer: Err(refusal),
+        },
     }
 }
 
-// The number of the first rule that the tables of a session break, 0 if none.
-pub fn table_refusal(
-    s: tables::Session,
+// Are the tables of a session of its size, and sound?
+#[tactic(auto, using(decide::proofs::RuledLaws::in_order))]
+pub fn check_tables(
+    s: Session,
     plan: &[u8],
     g: &[u32],
     rhs: &[u32],
@@ -160,17 +142,17 @@ pub fn table_refusal(
     k2: &[u32],
     place: &[u16],
     list: &[u16],
-) -> u8
-    ensures { TableRules s (tables plan.now g.now rhs.now parent.now k1.now k2.now place.now list.now) Passed result }
+) -> Result<(), Refusal>
+    ensures { TableRules s (tables plan.now g.now rhs.now parent.now k1.now k2.now place.now list.now) Passed (number_in result) }
 {
     if !plan::is_size(s.width, s.height) {
-        return 1;
+        return Err(Refusal::Size);
     }
     if !tables::lengths_hold(s.width, s.height, plan, g, rhs, parent, k1, k2, place, list) {
-        return 2;
+        return Err(Refusal::Length);
     }
     if !tables::is_sound(s, plan, g, rhs, parent, k1, k2, place, list) {
-        return 6;
+        return Err(Refusal::Tables);
     }
-    0
+    Ok(())
 }
