@@ -6,38 +6,42 @@ use mathlib.Core.List.{List, ◌++◌}
 use Prim.Native.Nat.{ℕ, ◌-◌}
 use lib.ListN.{get_or, length, take, drop}
 use lib.Seq.{take-append_seam}
+use Rattle.std.specs.Prelude.{Result, Ok, Err}
+use Rattle.refusal.specs.declared.Refusal.{Refusal}
+use Rattle.refusal.specs.declared.Refusal.TheVariants.{CutOff}
+use Rattle.refusal.proofs.NumberLaws.{refusal_of, refusal_is}
 use Rattle.method.specs.Numbers.{infinite}
 use Rattle.method.specs.Session as method
 use Rattle.tables.specs.Told.{Name, done, caught, none_leads, way, refusal, Told, told_way}
 use Rattle.entries.specs.declared.Aim.{Aim}
 use Rattle.answer.specs.declared.Answer.{Answer}
-use Rattle.answer.specs.declared.Answer.TheVariants.{Caught, NoWay, Way, Refused}
+use Rattle.answer.specs.declared.Answer.TheVariants.{Caught, NoWay, Way}
 use Rattle.answer.specs.Way.{Leading, Shows}
-use Rattle.answer.specs.Answer.{told_by, count_of, tells, answer_of, Answers, way_shown}
+use Rattle.answer.specs.Answer.{told_by, count_of, tells, answer_of, Answers, cut_off, none_there, way_shown}
 
 -- ---- the answer told
 
 -- The answer of this name that has these values ..
-named : Name → Told → Answer
-named caught x = Caught (get_or x.cells 0 0)
-named none_leads x = NoWay x.steps
-named way x = Way x.cost x.steps x.count
-named refusal x = Refused x.number
-named done x = Refused 0
+named : Name → Told → Result Answer Refusal
+named caught x = Ok (Caught (get_or x.cells 0 0))
+named none_leads x = Ok (NoWay x.steps)
+named way x = Ok (Way x.cost x.steps x.count)
+named refusal x = Err (refusal_of x.number)
+named done x = Err CutOff
 
-read : Told → Answer
+read : Told → Result Answer Refusal
 read x = named x.name x
 
 -- .. is the one that tells them.
-named_told : (a : Answer) (list : List ℕ) → a ≡ read (told_by a list)
+named_told : (a : Result Answer Refusal) (list : List ℕ) → a ≡ read (told_by a list)
 unfolding named read
-named_told (Caught s) list = refl
-named_told (NoWay n) list = refl
-named_told (Way c n k) list = refl
-named_told (Refused n) list = refl
+named_told (Ok (Caught s)) list = refl
+named_told (Ok (NoWay n)) list = refl
+named_told (Ok (Way c n k)) list = refl
+named_told (Err r) list = ap Err (sym (refusal_is r))
 
 -- Two answers told alike are one.
-pub told_alike : (a b : Answer) (list list' : List ℕ) → told_by a list ≡ told_by b list' → a ≡ b
+pub told_alike : (a b : Result Answer Refusal) (list list' : List ℕ) → told_by a list ≡ told_by b list' → a ≡ b
 told_alike a b list list' e = named_told a list ∙ ap read e ∙ sym (named_told b list')
 
 -- An answer that tells what the method's does is the method's.
@@ -48,15 +52,15 @@ answer_told (method.none_leads n) = refl
 answer_told (method.way c n l) = refl
 answer_told method.cut_off = refl
 
-pub answer_is : (a : Answer) (list : List ℕ) (m : method.Answer) → told_by a list ≡ tells m → a ≡ answer_of m
+pub answer_is : (a : Result Answer Refusal) (list : List ℕ) (m : method.Answer) → told_by a list ≡ tells m → a ≡ answer_of m
 answer_is a list m e = named_told a list ∙ ap read e ∙ answer_told m
 
 -- The number of cells told does not depend on the list.
-pub count_told : (a : Answer) (list : List ℕ) → (told_by a list).count ≡ count_of a
-count_told (Caught s) list = refl
-count_told (NoWay n) list = refl
-count_told (Way c n k) list = refl
-count_told (Refused n) list = refl
+pub count_told : (a : Result Answer Refusal) (list : List ℕ) → (told_by a list).count ≡ count_of a
+count_told (Ok (Caught s)) list = refl
+count_told (Ok (NoWay n)) list = refl
+count_told (Ok (Way c n k)) list = refl
+count_told (Err r) list = refl
 
 -- ---- the way told
 
@@ -80,3 +84,6 @@ way_told {a} {ended} {steps} {k} {rhs} {parent} {way} {way'} L e f w =
 
     shown : (k ≡ length l) × (way' ≡ l ++ drop (length l) way)
     shown = w l L.followed.leads
+
+-- By these each answer is proved.
+pub ruleset answering = (cut_off, none_there, way_told)

@@ -75,8 +75,9 @@ passing_first F = record {
 pub linked : {a : Aim} {parent : List ℕ} {s : ℕ} {l : List ℕ} → Followed a parent → s < area a → Leads a parent s l → s ≢ a.hunter → Linked a parent s
 linked F i k n = let o = onward n k in record { size = F.size; long_parent = F.long_parent; inside = i; cell = o.cell; named = o.named }
 
-pub passing_few : {a : Aim} {parent : List ℕ} {n s : ℕ} → Followed a parent → Passing a parent n s → s ≢ a.hunter → n < area a
-passing_few F P n = let o = onward n P.leads in omega (arith, P.sum F.cells F.leads, F.few, onward_long o, leads_long o.rest)
+-- The cells of the plan that are not yet counted grow fewer.
+pub passing_fewer : {a : Aim} {parent : List ℕ} {n s : ℕ} → Followed a parent → Passing a parent n s → s ≢ a.hunter → area a - (n + 1) < area a - n
+passing_fewer F P n = let o = onward n P.leads in omega (arith, P.sum F.cells F.leads, F.few, onward_long o, leads_long o.rest)
 
 pub passing_more : {a : Aim} {parent : List ℕ} {n s w : ℕ} → Followed a parent → Passing a parent n s → s ≢ a.hunter → Named a s (get_or parent s 0) w → Passing a parent (n + 1) w
 passing_more {a} {parent} {s = s} F P ne m = record {
@@ -175,3 +176,9 @@ writing_all {a} {parent} {w} {way} {count} {i} {s} G C z T l k = (C l k, stored 
 
     cells : l ≡ s ∷ W.behind
     cells = W.whole l k ∙ ap (λ (x : List ℕ). x ++ W.behind) (leads_one W.leads W.place)
+
+-- By these the walk that counts is proved ..
+pub ruleset passing = (passing_first, linked, passing_more, passing_all)
+
+-- .. and the one that writes.
+pub ruleset writing = (linked, writing_first, writing_room, writing_apart, writing_more)

@@ -1,5 +1,8 @@
 -- The answer of a search: what it tells as the code returns it and as the method gives it, and the promise of the answer after the last step.
-use Rattle.std.specs.Prelude.{◌≡◌, Bool, true, false, ◌≢◌, List, [], ◌++◌, ℕ, ◌-◌, ◌≤◌, ◌<◌, get_or, length, take, drop}
+use Rattle.std.specs.Prelude.{◌≡◌, Result, Ok, Err, Bool, true, false, ◌≢◌, List, [], ◌++◌, ℕ, ◌-◌, ◌≤◌, ◌<◌, get_or, length, take, drop}
+use Rattle.refusal.specs.declared.Refusal.{Refusal}
+use Rattle.refusal.specs.declared.Refusal.TheVariants.{CutOff}
+use Rattle.refusal.specs.Numbers.{number_of}
 use Rattle.method.specs.Numbers.{infinite}
 use Rattle.method.specs.Session as method
 use Rattle.plan.specs.Cells.{Size}
@@ -7,18 +10,18 @@ use Rattle.tables.specs.Told.{Told, told_refusal, told_caught, told_none, told_w
 use Rattle.entries.specs.declared.Aim.{Aim}
 use Rattle.entries.specs.Aims.{area}
 use Rattle.answer.specs.declared.Answer.{Answer}
-use Rattle.answer.specs.declared.Answer.TheVariants.{Caught, NoWay, Way, Refused}
+use Rattle.answer.specs.declared.Answer.TheVariants.{Caught, NoWay, Way}
 use Rattle.answer.specs.Way.{Leads, Leading}
 
 -- What an answer tells beside the way list that its search left: the cells of a way stand there.
-abbrev pub told_by : Answer → List ℕ → Told
-told_by (Caught s) list = told_caught s
-told_by (NoWay n) list = told_none n
-told_by (Way c n k) list = told_way c n k (take k list)
-told_by (Refused n) list = told_refusal n
+abbrev pub told_by : Result Answer Refusal → List ℕ → Told
+told_by (Ok (Caught s)) list = told_caught s
+told_by (Ok (NoWay n)) list = told_none n
+told_by (Ok (Way c n k)) list = told_way c n k (take k list)
+told_by (Err r) list = told_refusal (number_of r)
 
 -- How many cells it shows, whatever stands in the list.
-abbrev pub count_of : Answer → ℕ
+abbrev pub count_of : Result Answer Refusal → ℕ
 count_of a = (told_by a []).count
 
 -- What the method's answer tells; cut off after 3N steps is refusal 9.
@@ -33,11 +36,11 @@ abbrev pub cells_of : method.Answer → List ℕ
 cells_of a = (tells a).cells
 
 -- The method's answer as the code returns it.
-abbrev pub answer_of : method.Answer → Answer
-answer_of (method.caught s) = Caught s
-answer_of (method.none_leads n) = NoWay n
-answer_of (method.way c n l) = Way c n (length l)
-answer_of method.cut_off = Refused 9
+abbrev pub answer_of : method.Answer → Result Answer Refusal
+answer_of (method.caught s) = Ok (Caught s)
+answer_of (method.none_leads n) = Ok (NoWay n)
+answer_of (method.way c n l) = Ok (Way c n (length l))
+answer_of method.cut_off = Err CutOff
 
 -- ---- after the last step
 

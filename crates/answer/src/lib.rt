@@ -6,18 +6,23 @@ ghost use Rattle.answer.specs.Answer.{told_by, Answering, Answers};
 
 use entries;
 use entries::Aim;
+use refusal::Refusal;
 use tables;
 
-// Caught at a cell; no way, after so many steps; a way: its cost, the steps, the number of its cells; or refused with document 01's number.
+// Caught at a cell; no way, after so many steps; or a way: its cost, the steps, and the number of its cells.
 #[derive(Clone, Copy)]
 pub enum Answer {
     Caught(usize),
     NoWay(usize),
-    Way(u32, usize, usize),
-    Refused(u8),
+    Way {
+        cost: u32,
+        steps: usize,
+        cells: usize,
+    },
 }
 
 // How many cells the parents pass from the target to the hunter.
+#[tactic(auto, using(crate::proofs::WayLaws::passing))]
 fn passed(a: Aim, parent: &[u8]) -> usize
     requires { Followed a parent.now }
     ensures { Counts a parent.now result }
@@ -32,23 +37,23 @@ fn passed(a: Aim, parent: &[u8]) -> usize
 }
 
 // The cells from parent to parent, hunter first, into the list: from its last cell, the target, down to its first. Returns their number.
+#[tactic(auto, using(crate::proofs::WayLaws::writing))]
 fn write_way(a: Aim, parent: &[u8], way: &mut [u16]) -> usize
     requires { Leading a parent.now way.old }
     ensures { Shows a parent.now way.old result way.new }
 {
     let count = passed(a, parent);
-    let mut i = count - 1;
     let mut s = a.target;
-    while 0 < i {
+    for i in (1..count).rev() {
         way[i] = s as u16;
         s = entries::parent_of(a, parent, s);
-        i -= 1;
     }
     way[0] = s as u16;
     count
 }
 
 // The answer after the last step: cut off, none, or the way, which is written.
+#[tactic(auto, using(crate::proofs::AnswerLaws::answering))]
 pub fn answered(
     a: Aim,
     ended: bool,
@@ -56,20 +61,22 @@ pub fn answered(
     rhs: &[u32],
     parent: &[u8],
     way: &mut [u16],
-) -> Answer
+) -> Result<Answer, Refusal>
     requires { Answering a rhs.now parent.now way.old }
     ensures { Answers a ended steps rhs.now parent.now way.old (told_by result way.new) way.new }
 {
     if !ended {
-        return Answer::Refused(9);
+        return Err(Refusal::CutOff);
     }
-    let t = a.target;
-    let far = rhs[t];
+    let far = rhs[a.target];
     if far == tables::INFINITE {
-        return Answer::NoWay(steps);
+        return Ok(Answer::NoWay(steps));
     }
-    let h = a.hunter;
-    let near = rhs[h];
-    let shown = write_way(a, parent, way);
-    Answer::Way(far - near, steps, shown)
+    let near = rhs[a.hunter];
+    let cells = write_way(a, parent, way);
+    Ok(Answer::Way {
+        cost: far - near,
+        steps,
+        cells,
+    })
 }
