@@ -2,7 +2,6 @@
 use mathlib.Core.Path.{◌≡◌, refl, sym, ap, subst, ◌∙◌}
 use mathlib.Core.Bool.{true, false}
 use mathlib.Core.Logic.{◌⊎◌, inl, inr, ⊎_elim, ◌≢◌, ◌↔◌}
-use mathlib.Core.List.{List}
 use Prim.Native.Nat.{ℕ, ◌+◌, ◌-◌, ◌≤◌, ◌<◌}
 use native.Mathlib.Omega.{arith}
 use native.Mathlib.Decide.{ℕ_discrete}
@@ -27,11 +26,7 @@ use Rattle.plan.proofs.MoveLaws.{area, cost_of, not_a_cost}
 use Rattle.tables.specs.declared.Session.{Session}
 use Rattle.tables.specs.Lent.{Tables, Fits, cells, floor, graph, session, core}
 use Rattle.tables.specs.Sound.{Sound}
-use Rattle.tables.specs.Rules.{most, Numbers, MoveRule, WayRule, OwnRule, WaitingRule, CellRules}
-
--- the numbers of a table of 32 bits
-abbrev pub Words : List ℕ → Type 0
-Words l = (u : ℕ) → get_or l u 0 < 4294967296
+use Rattle.tables.specs.Rules.{most, Numbers, MoveRule, WayRule, OwnRule, WaitingRule, CellRules, Words}
 
 module _ (s : Session) (t : Tables) (z : Size s.width s.height) (fit : Fits (cells s) t) (rhs32 : Words t.rhs) (k32 : Words t.k2) where
   p : Plan

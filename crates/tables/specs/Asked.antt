@@ -5,6 +5,7 @@ use Rattle.plan.specs.declared.Spot.{Spot}
 use Rattle.plan.specs.Cells.{Size}
 use Rattle.plan.specs.Reached.{At}
 use Rattle.tables.specs.declared.Session.{Session}
+use Rattle.tables.specs.declared.Ahead.{Ahead}
 use Rattle.tables.specs.Lent.{cells}
 use Rattle.tables.specs.Rules.{Numbers}
 
@@ -17,12 +18,12 @@ pub record CellAsked (s : Session) (u : ℕ) (at aim : Spot) : Type 0 where
   pub there : At s.width s.goal aim
 
 -- .. in tables of which each has a place for every cell.
-pub record AloneAsked (s : Session) (g rhs parent k1 k2 place list : List ℕ) (u : ℕ) (at aim : Spot) : Type 0 where
+pub record AloneAsked (s : Session) (g : List ℕ) (ahead : Ahead) (u : ℕ) (at aim : Spot) : Type 0 where
   pub cell : CellAsked s u at aim
   pub long_g : length g ≡ cells s
-  pub long_rhs : length rhs ≡ cells s
-  pub long_parent : length parent ≡ cells s
-  pub queue : Lengths (cells s) k1 k2 place list
+  pub long_rhs : length ahead.rhs.now ≡ cells s
+  pub long_parent : length ahead.parent.now ≡ cells s
+  pub queue : Lengths (cells s) ahead.k1.now ahead.k2.now ahead.place.now ahead.list.now
 
 -- A look at the move in direction d from cell u, which stands at `at`.
 pub record WayAsked (width height : ℕ) (plan rhs parent : List ℕ) (u : ℕ) (at : Spot) (d : ℕ) : Type 0 where

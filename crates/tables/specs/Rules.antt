@@ -1,5 +1,5 @@
 -- Soundness as the check looks at it: rules that are local to the record, to one cell, or to one cell and direction; and the first place at fault, where it stops.
-use Rattle.std.specs.Prelude.{◌≡◌, ◌⊎◌, ◌≢◌, List, ℕ, ◌+◌, ◌*◌, ◌≤◌, ◌<◌, min, get_or}
+use Rattle.std.specs.Prelude.{◌≡◌, ◌⊎◌, ◌≢◌, List, ℕ, ◌+◌, ◌*◌, ◌≤◌, ◌<◌, min, get_or, Option, Some, None}
 use Rattle.method.specs.Numbers.{infinite, most_estimate, most_searches, growth}
 use Rattle.method.specs.Tables.{NotAbove}
 use Rattle.queue.specs.Rules.{EntryRule, AbsentRule, QueuedRule}
@@ -8,7 +8,7 @@ use Rattle.plan.specs.Cells.{Stays, entered, estimate}
 use Rattle.plan.specs.Costs.{Plan, byte, shut, IsByte}
 use Rattle.tables.specs.declared.Session.{Session}
 use Rattle.tables.specs.declared.Fault.{Fault}
-use Rattle.tables.specs.declared.Fault.TheVariants.{Nowhere, InRecord, InCell, InMove}
+use Rattle.tables.specs.declared.Fault.TheVariants.{InRecord, InCell, InMove}
 use Rattle.tables.specs.Lent.{Tables, cells, floor}
 
 -- The greatest finite number after so many searches.
@@ -80,12 +80,16 @@ pub record RulesBefore (s : Session) (t : Tables) (u : ℕ) : Type 0 where
 
 -- "The check of this stops at the first cell and direction at fault." The order: the record; then cell by cell, first the cell by itself, then its moves in direction order.
 -- Every rule before the place named holds, and the rule there fails.
-pub data FirstFault (s : Session) (t : Tables) : Fault → Type 0 where
+pub data FirstFault (s : Session) (t : Tables) : Option Fault → Type 0 where
   -- every rule holds
-  nowhere : RulesBefore s t (cells s) → FirstFault s t Nowhere
+  nowhere : RulesBefore s t (cells s) → FirstFault s t None
   -- the record's own numbers fail
-  in_record : (Numbers s → ⊥) → FirstFault s t InRecord
+  in_record : (Numbers s → ⊥) → FirstFault s t (Some InRecord)
   -- cell u by itself fails
-  in_cell : {u : ℕ} → u < cells s → RulesBefore s t u → (AloneIn s t u → ⊥) → FirstFault s t (InCell u)
+  in_cell : {u : ℕ} → u < cells s → RulesBefore s t u → (AloneIn s t u → ⊥) → FirstFault s t (Some (InCell u))
   -- cell u by itself holds, and so do its moves before direction d; the move in direction d fails
-  in_move : {u d : ℕ} → u < cells s → d < 4 → RulesBefore s t u → AloneIn s t u → ((e : ℕ) → e < d → WayIn s t u e) → (WayIn s t u d → ⊥) → FirstFault s t (InMove u d)
+  in_move : {u d : ℕ} → u < cells s → d < 4 → RulesBefore s t u → AloneIn s t u → ((e : ℕ) → e < d → WayIn s t u e) → (WayIn s t u d → ⊥) → FirstFault s t (Some (InMove u d))
+
+-- Each number of a table is one of 32 bits.
+abbrev pub Words : List ℕ → Type 0
+Words l = (u : ℕ) → get_or l u 0 < 4294967296

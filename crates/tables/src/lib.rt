@@ -8,9 +8,9 @@ ghost use Rattle.method.specs.Tables.{NotAbove};
 ghost use Rattle.queue.specs.Rules.{Lengths};
 ghost use Rattle.plan.specs.Cells.{Size};
 ghost use Rattle.plan.specs.Costs.{plan_of};
-ghost use Rattle.tables.specs.Lent.{tables, cells, Fits};
+ghost use Rattle.tables.specs.Lent.{lent, cells, Fits};
 ghost use Rattle.tables.specs.Sound.{Sound};
-ghost use Rattle.tables.specs.Rules.{Numbers, SumRule, MoveRule, WayRule, OwnRule, WaitingRule, AloneRule, FirstFault};
+ghost use Rattle.tables.specs.Rules.{Numbers, SumRule, MoveRule, WayRule, OwnRule, WaitingRule, AloneRule, FirstFault, Words};
 ghost use Rattle.tables.specs.Asked.{CellAsked, AloneAsked, WayAsked};
 
 use plan;
@@ -56,44 +56,19 @@ const MOST_ESTIMATE: u32 = 126;
 const GROWTH: u32 = 1024250;
 
 // Has every table the length that the plan's size gives?
-pub fn lengths_hold(
-    width: usize,
-    height: usize,
-    plan: &[u8],
-    g: &[u32],
-    rhs: &[u32],
-    parent: &[u8],
-    k1: &[u32],
-    k2: &[u32],
-    place: &[u16],
-    list: &[u16],
-) -> bool
+pub fn lengths_hold(width: usize, height: usize, plan: &[u8], g: &[u32], ahead: &Ahead) -> bool
     requires { Size width height }
-    ensures { Decides result (Fits (height * width) (tables plan.now g.now rhs.now parent.now k1.now k2.now place.now list.now)) }
+    ensures { Decides result (Fits (height * width) (lent plan.now g.now ahead.now)) }
 {
     let cells = height * width;
-    if plan.len() != 4 * cells {
-        return false;
-    }
-    if g.len() != cells {
-        return false;
-    }
-    if rhs.len() != cells {
-        return false;
-    }
-    if parent.len() != cells {
-        return false;
-    }
-    if k1.len() != cells {
-        return false;
-    }
-    if k2.len() != cells {
-        return false;
-    }
-    if place.len() != cells {
-        return false;
-    }
-    list.len() == cells
+    plan.len() == 4 * cells
+        && g.len() == cells
+        && ahead.rhs.len() == cells
+        && ahead.parent.len() == cells
+        && ahead.k1.len() == cells
+        && ahead.k2.len() == cells
+        && ahead.place.len() == cells
+        && ahead.list.len() == cells
 }
 
 // Are the record's cells in the plan, and its numbers in their bounds?
@@ -102,25 +77,13 @@ fn numbers_hold(s: Session) -> bool
     ensures { Decides result (Numbers s) }
 {
     let cells = s.height * s.width;
-    if cells <= s.hunter {
-        return false;
-    }
-    if cells <= s.target {
-        return false;
-    }
-    if cells <= s.origin {
-        return false;
-    }
-    if cells <= s.goal {
-        return false;
-    }
-    if cells < s.count {
-        return false;
-    }
-    if MOST_SEARCHES < s.searches {
-        return false;
-    }
-    s.km <= MOST_ESTIMATE * s.searches
+    s.hunter < cells
+        && s.target < cells
+        && s.origin < cells
+        && s.goal < cells
+        && s.count <= cells
+        && s.searches <= MOST_SEARCHES
+        && s.km <= MOST_ESTIMATE * s.searches
 }
 
 // Does cell v, with rhs r and parent p, agree with the sum that an open move into it gives, whose parent code is k? The hunter's rhs may be above it.
@@ -159,27 +122,26 @@ fn way_holds(
     height: usize,
     hunter: usize,
     plan: &[u8],
-    rhs: &[u32],
-    parent: &[u8],
+    ahead: &Ahead,
     x: u32,
     u: usize,
     at: Spot,
     d: usize,
 ) -> bool
-    requires { WayAsked width height plan.now rhs.now parent.now u at d }
-    ensures { Decides result (WayRule (plan_of width height plan.now) rhs.now parent.now hunter x u d) }
+    requires { WayAsked width height plan.now ahead.now.rhs.now ahead.now.parent.now u at d }
+    ensures { Decides result (WayRule (plan_of width height plan.now) ahead.now.rhs.now ahead.now.parent.now hunter x u d) }
 {
     let b = plan[4 * u + d];
     if !plan::stays_in(width, height, at, d) {
         if b != plan::SHUT {
             return false;
         }
-        let p = parent[u];
+        let p = ahead.parent[u];
         return p as usize != d + 1;
     }
     let v = plan::entered(width, u, d);
-    let r = rhs[v];
-    let p = parent[v];
+    let r = ahead.rhs[v];
+    let p = ahead.parent[v];
     move_holds(hunter, b, x, v, r, p, plan::back_code(d))
 }
 
@@ -187,10 +149,7 @@ fn way_holds(
 fn bound_holds(bound: u32, x: u32) -> bool
     ensures { Decides result ((x ≡ infinite) ⊎ (x ≤ bound)) }
 {
-    if x <= bound {
-        return true;
-    }
-    x == INFINITE
+    x <= bound || x == INFINITE
 }
 
 // Do a cell's own numbers obey their rules?
@@ -215,22 +174,12 @@ fn own_holds(bound: u32, hunter: usize, s: usize, g: u32, r: u32, p: u8) -> bool
     r != INFINITE
 }
 
-// The lesser of g and rhs, as a key has it.
-pub fn lesser(g: u32, rhs: u32) -> u32
-    ensures { result ≡ min g rhs }
-{
-    if g < rhs {
-        return g;
-    }
-    rhs
-}
-
 // Is the stored key (a, b) not above the calculated one? e is the estimate to the target.
 fn key_holds(a: u32, b: u32, g: u32, r: u32, e: usize, km: u32) -> bool
     requires { e ≤ most_estimate }
     ensures { Decides result (NotAbove a b (min g r + e + km) (min g r)) }
 {
-    let m = lesser(g, r);
+    let m = g.min(r);
     let first = m as usize + e + km as usize;
     let stored = a as usize;
     if stored != first {
@@ -240,105 +189,79 @@ fn key_holds(a: u32, b: u32, g: u32, r: u32, e: usize, km: u32) -> bool
 }
 
 // Is cell u, whose g x and rhs y differ, queued under a stored key that is not above the calculated one? It stands at `at`, the search's target at `aim`.
-fn waiting_holds(
-    s: Session,
-    k1: &[u32],
-    k2: &[u32],
-    place: &[u16],
-    list: &[u16],
-    x: u32,
-    y: u32,
-    u: usize,
-    at: Spot,
-    aim: Spot,
-) -> bool
+fn waiting_holds(s: Session, ahead: &Ahead, x: u32, y: u32, u: usize, at: Spot, aim: Spot) -> bool
     requires cell_asked { CellAsked s u at aim }
-    requires lengths { Lengths (cells s) k1.now k2.now place.now list.now }
-    ensures { Decides result (WaitingRule s k1.now k2.now place.now list.now x y u) }
+    requires lengths { Lengths (cells s) ahead.now.k1.now ahead.now.k2.now ahead.now.place.now ahead.now.list.now }
+    ensures { Decides result (WaitingRule s ahead.now.k1.now ahead.now.k2.now ahead.now.place.now ahead.now.list.now x y u) }
 {
-    if !queue::queued_holds(place, list, s.count, u) {
+    if !queue::queued_holds(&ahead.place, &ahead.list, s.count, u) {
         return false;
     }
-    let a = k1[u];
-    let b = k2[u];
+    let a = ahead.k1[u];
+    let b = ahead.k2[u];
     let e = plan::estimate(at, aim);
     key_holds(a, b, x, y, e, s.km)
 }
 
 // Does cell u, which stands at `at`, obey its own rules and the queue's, and does place u of the list? It is queued, and has a key to compare, exactly if g and rhs differ.
-fn alone_holds(
-    s: Session,
-    g: &[u32],
-    rhs: &[u32],
-    parent: &[u8],
-    k1: &[u32],
-    k2: &[u32],
-    place: &[u16],
-    list: &[u16],
-    u: usize,
-    at: Spot,
-    aim: Spot,
-) -> bool
-    requires { AloneAsked s g.now rhs.now parent.now k1.now k2.now place.now list.now u at aim }
-    ensures { Decides result (AloneRule s g.now rhs.now parent.now k1.now k2.now place.now list.now u) }
+fn alone_holds(s: Session, g: &[u32], ahead: &Ahead, u: usize, at: Spot, aim: Spot) -> bool
+    requires { AloneAsked s g.now ahead.now u at aim }
+    ensures { Decides result (AloneRule s g.now ahead.now.rhs.now ahead.now.parent.now ahead.now.k1.now ahead.now.k2.now ahead.now.place.now ahead.now.list.now u) }
 {
-    if !queue::entry_holds(s.width, k1, k2, place, list, s.count, u) {
+    if !queue::entry_holds(
+        s.width,
+        &ahead.k1,
+        &ahead.k2,
+        &ahead.place,
+        &ahead.list,
+        s.count,
+        u,
+    ) {
         return false;
     }
     let x = g[u];
-    let y = rhs[u];
-    let p = parent[u];
+    let y = ahead.rhs[u];
+    let p = ahead.parent[u];
     let bound = GROWTH * s.searches;
     if !own_holds(bound, s.origin, u, x, y, p) {
         return false;
     }
     if x == y {
-        return queue::absent_holds(k1, k2, place, u);
+        return queue::absent_holds(&ahead.k1, &ahead.k2, &ahead.place, u);
     }
-    waiting_holds(s, k1, k2, place, list, x, y, u, at, aim)
+    waiting_holds(s, ahead, x, y, u, at, aim)
 }
 
-// Where the check finds a rule broken: nowhere, in the record's own numbers, in a cell by itself, or in a cell's move in a direction.
+// Where the check finds a rule broken: in the record's own numbers, in a cell by itself, or in a cell's move in a direction.
 #[derive(Clone, Copy)]
 pub enum Fault {
-    Nowhere,
     InRecord,
     InCell(usize),
     InMove(usize, usize),
 }
 
-// The first place at fault. One walk over cells and directions, left as soon as one rule fails; row and column are carried along.
-pub fn first_fault(
-    s: Session,
-    plan: &[u8],
-    g: &[u32],
-    rhs: &[u32],
-    parent: &[u8],
-    k1: &[u32],
-    k2: &[u32],
-    place: &[u16],
-    list: &[u16],
-) -> Fault
+// The first place at fault, if there is one. One walk over cells and directions, left as soon as one rule fails; row and column are carried along.
+pub fn first_fault(s: Session, plan: &[u8], g: &[u32], ahead: &Ahead) -> Option<Fault>
     requires size { Size s.width s.height }
-    requires fits { Fits (cells s) (tables plan.now g.now rhs.now parent.now k1.now k2.now place.now list.now) }
-    ensures { FirstFault s (tables plan.now g.now rhs.now parent.now k1.now k2.now place.now list.now) result }
+    requires fits { Fits (cells s) (lent plan.now g.now ahead.now) }
+    ensures { FirstFault s (lent plan.now g.now ahead.now) result }
 {
     if !numbers_hold(s) {
-        return Fault::InRecord;
+        return Some(Fault::InRecord);
     }
     let cells = s.height * s.width;
     let aim = plan::spot_of(s.width, s.goal);
     let mut at = Spot { row: 0, column: 0 };
-    let mut fault = Fault::Nowhere;
+    let mut fault = None;
     'cells: for u in 0..cells {
-        if !alone_holds(s, g, rhs, parent, k1, k2, place, list, u, at, aim) {
-            fault = Fault::InCell(u);
+        if !alone_holds(s, g, ahead, u, at, aim) {
+            fault = Some(Fault::InCell(u));
             break 'cells;
         }
         let x = g[u];
         for d in 0..4 {
-            if !way_holds(s.width, s.height, s.origin, plan, rhs, parent, x, u, at, d) {
-                fault = Fault::InMove(u, d);
+            if !way_holds(s.width, s.height, s.origin, plan, ahead, x, u, at, d) {
+                fault = Some(Fault::InMove(u, d));
                 break 'cells;
             }
         }
@@ -347,25 +270,18 @@ pub fn first_fault(
     fault
 }
 
+// Each number of a table of 32 bits is one of 32 bits: what the type of a table says, told of a table that stands in a struct.
+fn has_words(table: &[u32])
+    ensures { Words table.now }
+{}
+
 // Are the tables sound? Yes exactly if no place is at fault.
-pub fn is_sound(
-    s: Session,
-    plan: &[u8],
-    g: &[u32],
-    rhs: &[u32],
-    parent: &[u8],
-    k1: &[u32],
-    k2: &[u32],
-    place: &[u16],
-    list: &[u16],
-) -> bool
+pub fn is_sound(s: Session, plan: &[u8], g: &[u32], ahead: &Ahead) -> bool
     requires size { Size s.width s.height }
-    requires fits { Fits (cells s) (tables plan.now g.now rhs.now parent.now k1.now k2.now place.now list.now) }
-    ensures { Decides result (Sound s (tables plan.now g.now rhs.now parent.now k1.now k2.now place.now list.now)) }
+    requires fits { Fits (cells s) (lent plan.now g.now ahead.now) }
+    ensures { Decides result (Sound s (lent plan.now g.now ahead.now)) }
 {
-    let fault = first_fault(s, plan, g, rhs, parent, k1, k2, place, list);
-    if let Fault::Nowhere = fault {
-        return true;
-    }
-    false
+    has_words(&ahead.rhs);
+    has_words(&ahead.k2);
+    first_fault(s, plan, g, ahead).is_none()
 }

@@ -22,18 +22,18 @@ entered-v-requires-clause-width_bound c = let stays : Stays c.args.width c.args.
     let m = stays in
     (c.requires.size.narrow, omega (arith, c.requires.inside, area c.requires.size), omega (arith, entered_sum _ _ _ c.requires.size.wide m.north m.west))
 
-pub offset_bounds-rhs-v : goal.offset_bounds-rhs-v
-offset_bounds-rhs-v c = let stays : Stays c.args.width c.args.height c.args.u c.args.d = (c.stays_in.ensures _ c.requires.here c.requires.inside).so c.if-not-stays_in.false in
+pub offset_bounds-ahead-v : goal.offset_bounds-ahead-v
+offset_bounds-ahead-v c = let stays : Stays c.args.width c.args.height c.args.u c.args.d = (c.stays_in.ensures _ c.requires.here c.requires.inside).so c.if-not-stays_in.false in
     let enters_cell : c.entered-v.result < c.args.height * c.args.width = omega (arith, c.entered-v.ensures, (enters c.requires.size.wide stays).inside) in
     omega (arith, enters_cell, area c.requires.size)
 
-pub bounds-rhs-v : goal.bounds-rhs-v
-bounds-rhs-v c = let stays : Stays c.args.width c.args.height c.args.u c.args.d = (c.stays_in.ensures _ c.requires.here c.requires.inside).so c.if-not-stays_in.false in
+pub bounds-ahead-v : goal.bounds-ahead-v
+bounds-ahead-v c = let stays : Stays c.args.width c.args.height c.args.u c.args.d = (c.stays_in.ensures _ c.requires.here c.requires.inside).so c.if-not-stays_in.false in
     let enters_cell : c.entered-v.result < c.args.height * c.args.width = omega (arith, c.entered-v.ensures, (enters c.requires.size.wide stays).inside) in
     omega (arith, enters_cell, c.requires.long_rhs)
 
-pub bounds-parent-v : goal.bounds-parent-v
-bounds-parent-v c = let stays : Stays c.args.width c.args.height c.args.u c.args.d = (c.stays_in.ensures _ c.requires.here c.requires.inside).so c.if-not-stays_in.false in
+pub bounds-ahead-v-2 : goal.bounds-ahead-v-2
+bounds-ahead-v-2 c = let stays : Stays c.args.width c.args.height c.args.u c.args.d = (c.stays_in.ensures _ c.requires.here c.requires.inside).so c.if-not-stays_in.false in
     let enters_cell : c.entered-v.result < c.args.height * c.args.width = omega (arith, c.entered-v.ensures, (enters c.requires.size.wide stays).inside) in
     omega (arith, enters_cell, c.requires.long_parent)
 
