@@ -3,6 +3,7 @@ use mathlib.Core.Path.{◌≡◌, refl, sym, ap, ◌∙◌}
 use mathlib.Core.Logic.{inr, ◌≢◌}
 use mathlib.Core.List.{List, [], ◌∷◌}
 use Prim.{tt}
+use Rattle.std.proofs.Common.{Some, None}
 use Prim.Native.Nat.{ℕ, ◌+◌, ◌≤◌, ◌<◌}
 use native.Mathlib.Omega.{arith}
 use native.Mathlib.Decide.{ℕ_discrete, dec_lt}
@@ -18,7 +19,6 @@ use Rattle.plan.proofs.GridLaws.{out_reach}
 use Rattle.tables.specs.Lent.{graph_in}
 use Rattle.entries.specs.declared.Aim.{Aim}
 use Rattle.entries.specs.declared.Found.{Found}
-use Rattle.entries.specs.declared.Asked.TheVariants.{Keeps, Takes}
 use Rattle.entries.specs.Aims.{frame_of, floor, hunt, Findable}
 use Rattle.entries.specs.Became.{found_of}
 use Rattle.entries.proofs.FoundLaws.{found_small, anew_is}
@@ -50,15 +50,15 @@ module _ {a : Aim} {plan : List ℕ} {u d : ℕ} (L : Leaving a plan u d) where
       (record { stays_in = o.0; cell = o.2; inside = rw o.2 (enters wide o.0).inside }, o.1.1)
 
 module _ {a : Aim} {plan rhs : List ℕ} {v u d : ℕ} (R : Relaxing a plan rhs v u d) where
-  pub relaxes_none : [] ≡ out_by (floor a plan) u d → Relaxes a plan rhs v u d Keeps
+  pub relaxes_none : [] ≡ out_by (floor a plan) u d → Relaxes a plan rhs v u d None
   relaxes_none e = record { fair = tt; is = λ T q. relaxed_none (hunt a plan) v T e }
 
   module _ {k s c : ℕ} (e : move k s c ∷ [] ≡ out_by (floor a plan) u d) where
-    pub relaxes_hunter : s ≡ a.hunter → Relaxes a plan rhs v u d Keeps
+    pub relaxes_hunter : s ≡ a.hunter → Relaxes a plan rhs v u d None
     unfolding relaxed
     relaxes_hunter h = record { fair = tt; is = λ T q. relaxed_one (hunt a plan) v T e ∙ choose_yes (ℕ_discrete s a.hunter) T _ h }
 
-    pub relaxes_not : s ≢ a.hunter → get_or rhs s 0 ≤ v + c → Relaxes a plan rhs v u d Keeps
+    pub relaxes_not : s ≢ a.hunter → get_or rhs s 0 ≤ v + c → Relaxes a plan rhs v u d None
     unfolding relaxed
     relaxes_not n h = record {
       fair = tt;
@@ -68,7 +68,7 @@ module _ {a : Aim} {plan rhs : List ℕ} {v u d : ℕ} (R : Relaxing a plan rhs 
           ∙ choose_no (dec_lt (v + c) (get_or T.rhs s 0)) _ T (λ x. omega (arith, ap (λ r. get_or r s 0) q));
     }
 
-    pub relaxes_to : s ≢ a.hunter → v + c < get_or rhs s 0 → Relaxes a plan rhs v u d (Takes s (record { rhs = v + c; parent = k }))
+    pub relaxes_to : s ≢ a.hunter → v + c < get_or rhs s 0 → Relaxes a plan rhs v u d (Some (record { cell = s; found = record { rhs = v + c; parent = k } }))
     unfolding relaxed
     relaxes_to n h = record {
       fair = let x = enters_by R.leaving e in (x.0, inr (omega (arith, x.1, R.room)));
@@ -79,15 +79,15 @@ module _ {a : Aim} {plan rhs : List ℕ} {v u d : ℕ} (R : Relaxing a plan rhs 
     }
 
 module _ {a : Aim} {plan g parent : List ℕ} {u d : ℕ} (R : Renewing a plan g parent u d) where
-  pub renews_none : [] ≡ out_by (floor a plan) u d → Renews a plan g parent u d Keeps
+  pub renews_none : [] ≡ out_by (floor a plan) u d → Renews a plan g parent u d None
   renews_none e = record { fair = tt; is = λ T _ q. renewed_none (hunt a plan) T e }
 
   module _ {k s c : ℕ} (e : move k s c ∷ [] ≡ out_by (floor a plan) u d) where
-    pub renews_hunter : s ≡ a.hunter → Renews a plan g parent u d Keeps
+    pub renews_hunter : s ≡ a.hunter → Renews a plan g parent u d None
     unfolding renewed
     renews_hunter h = record { fair = tt; is = λ T _ q. renewed_one (hunt a plan) T e ∙ choose_yes (ℕ_discrete s a.hunter) T _ h }
 
-    pub renews_not : s ≢ a.hunter → get_or parent s 0 ≢ k → Renews a plan g parent u d Keeps
+    pub renews_not : s ≢ a.hunter → get_or parent s 0 ≢ k → Renews a plan g parent u d None
     unfolding renewed
     renews_not n h = record {
       fair = tt;
@@ -101,7 +101,7 @@ module _ {a : Aim} {plan g parent : List ℕ} {u d : ℕ} (R : Renewing a plan g
     pub child_findable : Findable a.width a.height plan g s
     child_findable = record { obeys = R.leaving.aimed.obeys; long_g = R.long_g; small_g = R.small_g; inside = (enters_by R.leaving e).0.inside }
 
-    pub renews_at : {f : Found} → s ≢ a.hunter → get_or parent s 0 ≡ k → found_of f ≡ method.anew (graph_in (frame_of a) plan) g s → Renews a plan g parent u d (Takes s f)
+    pub renews_at : {f : Found} → s ≢ a.hunter → get_or parent s 0 ≡ k → found_of f ≡ method.anew (graph_in (frame_of a) plan) g s → Renews a plan g parent u d (Some (record { cell = s; found = f }))
     unfolding renewed
     renews_at n h ef = record {
       fair = ((enters_by R.leaving e).0, found_small a child_findable ef);

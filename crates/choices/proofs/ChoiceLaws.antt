@@ -1,14 +1,14 @@
 -- The next cell as the code chooses it.
-use mathlib.Core.Path.{◌≡◌, refl, sym, ap, ◌∙◌}
-use mathlib.Core.Bool.{Bool, true, false, true≢false}
+use mathlib.Core.Path.{◌≡◌, sym, ap, ◌∙◌}
+use mathlib.Core.Bool.{true, true≢false}
 use mathlib.Core.Logic.{inl, inr, ◌≢◌}
 use mathlib.Core.List.{List}
+use Rattle.std.proofs.Common.{Some, None}
 use Prim.Native.Nat.{ℕ, ◌+◌, ◌≤◌, ◌<◌, min}
 use native.Mathlib.Omega.{arith}
-use native.Mathlib.Decide.{dec_lt}
-use lib.Dec.{ltb}
+use native.Mathlib.Decide.{ℕ_discrete, dec_lt}
 use lib.ListN.{get_or}
-use borrow.Author.Tests.{ltb-true, ltb-false, lt-ltb}
+use borrow.Author.Tests.{lt-ltb}
 use Rattle.decide.proofs.OrderLaws.{less_eq, less_ne}
 use Rattle.method.specs.Numbers.{infinite}
 use Rattle.method.specs.Graph.{GraphLaws}
@@ -21,110 +21,102 @@ use Rattle.queue.specs.Queue.{LeastOf}
 use Rattle.queue.proofs.MemberLaws.{member_place}
 use Rattle.queue.proofs.QueueLaws.{least_of, least_place}
 use Rattle.plan.proofs.EstimateLaws.{estimate_self}
-use Rattle.tables.specs.Lent.{tables, graph_in, core}
+use Rattle.tables.specs.declared.Ahead.{Ahead}
+use Rattle.tables.specs.Lent.{lent, graph_in, core}
 use Rattle.tables.proofs.FrameLaws.{graph_in_laws}
 use Rattle.tables.proofs.SoundLaws.{Words}
 use Rattle.entries.specs.declared.Aim.{Aim}
 use Rattle.entries.specs.Aims.{area, frame_of, hunt}
 use Rattle.choices.specs.Next.{Goal, Choosing, Chosen}
-use Rattle.choices.specs.declared.Choice.TheVariants.{Done, On}
 
 -- ---- the target's calculated key
 
-pub goal_infinite : (a : Aim) (y p q : ℕ) {r : Bool} → y ≡ infinite → r ≡ ltb (method.key_number p q) (method.key_number infinite infinite)
-    → (plan : List ℕ) → r ≡ ltb (method.key_number p q) (method.key_number (method.first_key (hunt a plan) a.target y) y)
-goal_infinite a y p q e d plan = d ∙ rw (first_infinite (hunt a plan) a.target y e, e) refl
-
-pub goal_finite : (a : Aim) (y p q : ℕ) {r : Bool} → Goal a y → y ≢ infinite → r ≡ ltb (method.key_number p q) (method.key_number (y + a.km) y)
-    → (plan : List ℕ) → r ≡ ltb (method.key_number p q) (method.key_number (method.first_key (hunt a plan) a.target y) y)
-goal_finite a y p q g n d plan = d ∙ ap (λ x. ltb (method.key_number p q) (method.key_number x y)) (sym first)
+-- Its first number stays at infinite where the target's lesser number y is infinite.
+pub goal_key : (a : Aim) {y first key : ℕ} → Goal a y → first ≡ min (y + a.km) infinite → key ≡ method.key_number first y
+    → (plan : List ℕ) → key ≡ method.key_number (method.first_key (hunt a plan) a.target y) y
+goal_key a {y} {first} {key} g f k plan = at (ℕ_discrete y infinite)
   where
-    first : method.first_key (hunt a plan) a.target y ≡ y + a.km
-    first = first_finite (hunt a plan) a.target y (omega (arith, g n)) ∙ omega (arith, estimate_self a.width a.target)
+    at : Dec (y ≡ infinite) → key ≡ method.key_number (method.first_key (hunt a plan) a.target y) y
+    at (yes e) = omega (arith, k, f, first_infinite (hunt a plan) a.target y e)
+    at (no n) = omega (arith, k, f, g n, first_finite (hunt a plan) a.target y (omega (arith, g n)), estimate_self a.width a.target)
 
 -- ---- the queue's least cell is the method's
 
 -- a cell that the method has before another, the queue has before it
-queue_before : (a : Aim) (plan g rhs parent k1 k2 place list : List ℕ) → Words k2
-    → (s u : ℕ) → Before (graph_in (frame_of a) plan) (core (tables plan g rhs parent k1 k2 place list)) s u → before a.width k1 k2 s u ≡ true
+queue_before : (a : Aim) (plan g : List ℕ) (t : Ahead) → Words t.k2.now
+    → (s u : ℕ) → Before (graph_in (frame_of a) plan) (core (lent plan g t)) s u → before a.width t.k1.now t.k2.now s u ≡ true
 unfolding before
-queue_before a plan g rhs parent k1 k2 place list w s u (inl x) = at (dec_lt (get_or k1 s 0) (get_or k1 u 0))
+queue_before a plan g t w s u (inl x) = at (dec_lt (get_or t.k1.now s 0) (get_or t.k1.now u 0))
   where
-    at : Dec (get_or k1 s 0 < get_or k1 u 0) → before a.width k1 k2 s u ≡ true
-    at (yes l) = less_ne (get_or k1 s 0) (get_or k1 u 0) _ (λ e. omega arith) ∙ lt-ltb (get_or k1 s 0) (get_or k1 u 0) l
+    at : Dec (get_or t.k1.now s 0 < get_or t.k1.now u 0) → before a.width t.k1.now t.k2.now s u ≡ true
+    at (yes l) = less_ne (get_or t.k1.now s 0) (get_or t.k1.now u 0) _ (λ e. omega arith) ∙ lt-ltb (get_or t.k1.now s 0) (get_or t.k1.now u 0) l
     at (no n) =
-        less_eq (get_or k1 s 0) (get_or k1 u 0) _ (omega (arith, w s, w u))
-        ∙ less_ne (get_or k2 s 0) (get_or k2 u 0) _ (λ e. omega (arith, w s, w u))
-        ∙ lt-ltb (get_or k2 s 0) (get_or k2 u 0) (omega (arith, w s, w u))
-queue_before a plan g rhs parent k1 k2 place list w s u (inr x) =
-    less_eq (get_or k1 s 0) (get_or k1 u 0) _ (omega (arith, x.0, w s, w u)) ∙ less_eq (get_or k2 s 0) (get_or k2 u 0) _ (omega (arith, x.0, w s, w u)) ∙ x.1
+        less_eq (get_or t.k1.now s 0) (get_or t.k1.now u 0) _ (omega (arith, w s, w u))
+        ∙ less_ne (get_or t.k2.now s 0) (get_or t.k2.now u 0) _ (λ e. omega (arith, w s, w u))
+        ∙ lt-ltb (get_or t.k2.now s 0) (get_or t.k2.now u 0) (omega (arith, w s, w u))
+queue_before a plan g t w s u (inr x) =
+    less_eq (get_or t.k1.now s 0) (get_or t.k1.now u 0) _ (omega (arith, x.0, w s, w u)) ∙ less_eq (get_or t.k2.now s 0) (get_or t.k2.now u 0) _ (omega (arith, x.0, w s, w u)) ∙ x.1
 
 -- The queue is not empty, and u is its least cell.
-pub record Leading (a : Aim) (count : ℕ) (g rhs k1 k2 place list : List ℕ) (u : ℕ) : Type 0 where
-  pub choosing : Choosing a count g rhs k1 k2 place list
-  pub words : Words k2
+pub record Leading (a : Aim) (count : ℕ) (g : List ℕ) (t : Ahead) (u : ℕ) : Type 0 where
+  pub choosing : Choosing a count g t
   pub some : 0 < count
-  pub least : LeastOf list u
+  pub least : LeastOf t.list.now u
 
-module _ {a : Aim} {count : ℕ} {g rhs k1 k2 place list : List ℕ} (C : Choosing a count g rhs k1 k2 place list) where
+module _ {a : Aim} {count : ℕ} {g : List ℕ} {t : Ahead} (C : Choosing a count g t) where
   laws : (plan : List ℕ) → GraphLaws (graph_in (frame_of a) plan)
   laws plan = graph_in_laws (frame_of a) plan C.size
 
   -- an empty queue
-  pub chosen_empty : count ≡ 0 → Chosen a g rhs k1 k2 place Done
-  chosen_empty e plan parent l =
-      sym (next_none (hunt a plan) (laws plan) (core (tables plan g rhs parent k1 k2 place l))
-      (λ u F c. let m = member_place place u F.queued in m.1 (C.heap.tables.agree.gone u F.u_in (omega arith))))
+  pub chosen_empty : count ≡ 0 → Chosen a g t None
+  chosen_empty e plan =
+      sym (next_none (hunt a plan) (laws plan) (core (lent plan g t))
+      (λ u F c. let m = member_place t.place.now u F.queued in m.1 (C.heap.tables.agree.gone u F.u_in (omega arith))))
 
-module _ {a : Aim} {count u : ℕ} {g rhs k1 k2 place list : List ℕ} (L : Leading a count g rhs k1 k2 place list u) where
+  pub leading : {u : ℕ} → count ≢ 0 → LeastOf t.list.now u → Leading a count g t u
+  leading n l = record { choosing = C; some = omega (arith, n); least = l }
+
+module _ {a : Aim} {count u : ℕ} {g : List ℕ} {t : Ahead} (L : Leading a count g t u) where
   pub chosen_in : u < area a
   chosen_in = (least_place L.choosing.heap L.some L.least).0
 
-  least_here : (plan parent l : List ℕ) → LeastCell (graph_in (frame_of a) plan) (core (tables plan g rhs parent k1 k2 place l)) (area a) u
-  least_here plan parent l =
-      least_cell (laws L.choosing plan) (core (tables plan g rhs parent k1 k2 place l)) (area a) u chosen_in (least_of L.choosing.heap L.some L.least).member
-      (λ s m q b. true≢false (sym (queue_before a plan g rhs parent k1 k2 place l L.words s u b) ∙ (least_of L.choosing.heap L.some L.least).first s q))
+  module _ (words : Words t.k2.now) where
+    least_here : (plan : List ℕ) → LeastCell (graph_in (frame_of a) plan) (core (lent plan g t)) (area a) u
+    least_here plan =
+        least_cell (laws L.choosing plan) (core (lent plan g t)) (area a) u chosen_in (least_of L.choosing.heap L.some L.least).member
+        (λ s m q b. true≢false (sym (queue_before a plan g t words s u b) ∙ (least_of L.choosing.heap L.some L.least).first s q))
 
-  goes : ((plan parent l : List ℕ) → Continues (hunt a plan) (core (tables plan g rhs parent k1 k2 place l)) u) → Chosen a g rhs k1 k2 place (On u)
-  goes f plan parent l = sym (next_some (hunt a plan) (laws L.choosing plan) (core (tables plan g rhs parent k1 k2 place l)) u (least_here plan parent l) (f plan parent l))
+    goes : ((plan : List ℕ) → Continues (hunt a plan) (core (lent plan g t)) u) → Chosen a g t (Some u)
+    goes f plan = sym (next_some (hunt a plan) (laws L.choosing plan) (core (lent plan g t)) u (least_here plan) (f plan))
 
-  -- rhs of the target is above its g
-  pub chosen_over : get_or g a.target 0 < get_or rhs a.target 0 → Chosen a g rhs k1 k2 place (On u)
-  chosen_over h = goes (λ plan parent l. inr h)
+    -- rhs of the target is above its g
+    pub chosen_over : get_or g a.target 0 < get_or t.rhs.now a.target 0 → Chosen a g t (Some u)
+    chosen_over h = goes (λ plan. inr h)
 
-  module _ {r : Bool} (level : get_or rhs a.target 0 ≤ get_or g a.target 0)
-      (short : (plan : List ℕ) → r ≡ ltb (method.key_number (get_or k1 u 0) (get_or k2 u 0)) (method.key_number (method.first_key (hunt a plan) a.target (get_or rhs a.target 0)) (get_or rhs a.target 0))) where
-    lesser_is : min (get_or g a.target 0) (get_or rhs a.target 0) ≡ get_or rhs a.target 0
-    lesser_is = omega arith
+    module _ {least key : ℕ} (level : get_or t.rhs.now a.target 0 ≤ get_or g a.target 0) (stored : least ≡ method.key_number (get_or t.k1.now u 0) (get_or t.k2.now u 0))
+        (calculated : (plan : List ℕ) → key ≡ method.key_number (method.first_key (hunt a plan) a.target (get_or t.rhs.now a.target 0)) (get_or t.rhs.now a.target 0)) where
+      goal_is : (plan : List ℕ) → method.calculated_key (hunt a plan) (core (lent plan g t)) a.target ≡ key
+      goal_is plan =
+          let e : min (get_or g a.target 0) (get_or t.rhs.now a.target 0) ≡ get_or t.rhs.now a.target 0 = omega arith in
+          rw e (sym (calculated plan))
 
-    -- the least stored key is below the target's calculated key
-    pub chosen_short : r ≡ true → Chosen a g rhs k1 k2 place (On u)
-    chosen_short e =
-        goes (λ plan parent l. inl (rw lesser_is (ltb-true
-        (method.key_number (get_or k1 u 0) (get_or k2 u 0))
-        (method.key_number (method.first_key (hunt a plan) a.target (get_or rhs a.target 0)) (get_or rhs a.target 0))
-        (sym (short plan) ∙ e))))
+      -- the least stored key is below the target's calculated key
+      pub chosen_short : least < key → Chosen a g t (Some u)
+      chosen_short l = goes (λ plan. inl (rw (goal_is plan, ← stored) l))
 
-    -- neither: the search has ended
-    pub chosen_done : r ≡ false → Chosen a g rhs k1 k2 place Done
-    chosen_done e plan parent l = sym (next_none (hunt a plan) (laws L.choosing plan) T (λ v F c. not_on (same v F) c))
-      where
-        T : method.Tables
-        T = core (tables plan g rhs parent k1 k2 place l)
+      -- neither: the search has ended
+      pub chosen_done : key ≤ least → Chosen a g t None
+      chosen_done l plan = sym (next_none (hunt a plan) (laws L.choosing plan) T (λ v F c. not_on (same v F) c))
+        where
+          T : method.Tables
+          T = core (lent plan g t)
 
-        same : (v : ℕ) → LeastCell (graph_in (frame_of a) plan) (core (tables plan g rhs parent k1 k2 place l)) (area a) v → v ≡ u
-        same v F =
-            let p = least_one (laws L.choosing plan) (core (tables plan g rhs parent k1 k2 place l)) (area a) v F in
-            let q = least_one (laws L.choosing plan) (core (tables plan g rhs parent k1 k2 place l)) (area a) u (least_here plan parent l) in
-            cc
+          same : (v : ℕ) → LeastCell (graph_in (frame_of a) plan) (core (lent plan g t)) (area a) v → v ≡ u
+          same v F =
+              let p = least_one (laws L.choosing plan) (core (lent plan g t)) (area a) v F in
+              let q = least_one (laws L.choosing plan) (core (lent plan g t)) (area a) u (least_here plan) in
+              cc
 
-        behind : method.calculated_key (hunt a plan) T a.target ≤ method.key_number (get_or k1 u 0) (get_or k2 u 0)
-        behind =
-            rw lesser_is (ltb-false
-            (method.key_number (get_or k1 u 0) (get_or k2 u 0))
-            (method.key_number (method.first_key (hunt a plan) a.target (get_or rhs a.target 0)) (get_or rhs a.target 0))
-            (sym (short plan) ∙ e))
-
-        not_on : {v : ℕ} → v ≡ u → Continues (hunt a plan) (core (tables plan g rhs parent k1 k2 place l)) v → ⊥
-        not_on q (inl x) = omega (arith, behind, ap (λ x. method.stored_key (core (tables plan g rhs parent k1 k2 place l)) x) q, x)
-        not_on q (inr x) = omega arith
+          not_on : {v : ℕ} → v ≡ u → Continues (hunt a plan) (core (lent plan g t)) v → ⊥
+          not_on q (inl x) = omega (arith, goal_is plan, ap (λ x. method.stored_key (core (lent plan g t)) x) q, x)
+          not_on q (inr x) = omega arith

@@ -1,5 +1,5 @@
 -- What one open move from the cell u of a step asks of the cell that it enters.
-use Rattle.std.specs.Prelude.{◌≡◌, ◌⊎◌, List, ℕ, ◌≤◌, ◌<◌, length}
+use Rattle.std.specs.Prelude.{◌≡◌, ◌⊎◌, List, ℕ, ◌≤◌, ◌<◌, length, Option, Some, None}
 use Prim.{Unit}
 use Rattle.method.specs.Numbers.{infinite}
 use Rattle.method.specs.Tables as method
@@ -9,7 +9,6 @@ use Rattle.plan.specs.Grid.{out_by}
 use Rattle.plan.specs.declared.Spot.{Spot}
 use Rattle.entries.specs.declared.Aim.{Aim}
 use Rattle.entries.specs.declared.Asked.{Asked}
-use Rattle.entries.specs.declared.Asked.TheVariants.{Keeps, Takes}
 use Rattle.entries.specs.Aims.{area, floor, hunt, most_g, most_rhs, Aimed, Small}
 use Rattle.entries.specs.Became.{Sited, KeyFits, obeyed}
 
@@ -20,9 +19,9 @@ pub record Enters (a : Aim) (u d s : ℕ) : Type 0 where
   pub inside : s < area a
 
 -- What is asked of it, if anything, can be done: it is this cell, and the sum leaves room.
-abbrev pub Fair : Aim → ℕ → ℕ → Asked → Type 0
-Fair a u d Keeps = Unit {0}
-Fair a u d (Takes s f) = Enters a u d s × ((f.rhs ≡ infinite) ⊎ (f.rhs ≤ most_rhs))
+abbrev pub Fair : Aim → ℕ → ℕ → Option Asked → Type 0
+Fair a u d None = Unit {0}
+Fair a u d (Some x) = Enters a u d x.cell × ((x.found.rhs ≡ infinite) ⊎ (x.found.rhs ≤ most_rhs))
 
 -- A direction can be looked in from a cell of the plan.
 pub record Leaving (a : Aim) (plan : List ℕ) (u d : ℕ) : Type 0 where
@@ -37,7 +36,7 @@ pub record Relaxing (a : Aim) (plan rhs : List ℕ) (v u d : ℕ) : Type 0 where
   pub room : v ≤ most_g
 
 -- What is asked is what the method does.
-pub record Relaxes (a : Aim) (plan rhs : List ℕ) (v u d : ℕ) (r : Asked) : Type 0 where
+pub record Relaxes (a : Aim) (plan rhs : List ℕ) (v u d : ℕ) (r : Option Asked) : Type 0 where
   pub fair : Fair a u d r
   pub is : (T : method.Tables) → T.rhs ≡ rhs → relaxed_all (hunt a plan) v T (out_by (floor a plan) u d) ≡ obeyed (hunt a plan) T r
 
@@ -48,7 +47,7 @@ pub record Renewing (a : Aim) (plan g parent : List ℕ) (u d : ℕ) : Type 0 wh
   pub small_g : Small most_g g
   pub long_parent : length parent ≡ area a
 
-pub record Renews (a : Aim) (plan g parent : List ℕ) (u d : ℕ) (r : Asked) : Type 0 where
+pub record Renews (a : Aim) (plan g parent : List ℕ) (u d : ℕ) (r : Option Asked) : Type 0 where
   pub fair : Fair a u d r
   pub is : (T : method.Tables) → T.g ≡ g → T.parent ≡ parent → renewed_all (hunt a plan) T (out_by (floor a plan) u d) ≡ obeyed (hunt a plan) T r
 

@@ -1,8 +1,7 @@
 -- The first least sum, direction by direction.
-use mathlib.Core.Path.{◌≡◌, refl, sym, ap, ◌∙◌}
+use mathlib.Core.Path.{◌≡◌, refl, sym, ◌∙◌}
 use mathlib.Core.Logic.{⊎_elim}
 use mathlib.Core.List.{List, [], ◌∷◌}
-use Rattle.std.proofs.Common.{Option, Some, None}
 use Prim.Native.Nat.{ℕ, ◌+◌, ◌≤◌, ◌<◌}
 use native.Mathlib.Numerals.{add-one}
 use native.Mathlib.Omega.{arith}
@@ -15,19 +14,10 @@ use Rattle.method.specs.Tables.{Found, found, better, least_over}
 use Rattle.method.proofs.Appending.{least_over_append}
 use Rattle.plan.specs.Costs.{Plan, cells, Obeys}
 use Rattle.plan.specs.Grid.{into_by, up_to}
-use Rattle.plan.specs.Reached.{listed}
-use Rattle.plan.specs.declared.Reach.{Reach}
 use Rattle.plan.proofs.GridLaws.{into_reach, open_from_in}
 use Rattle.entries.specs.Aims.{Small}
 
--- what an answer about a direction says
-pub said_shut : {r : Option Reach} {l : List Move} → ((x : Reach) → r ≡ Some x → ⊥) → listed r ≡ l → [] ≡ l
-said_shut {r = None} n q = q
-said_shut {r = Some x} n q = absurd (n x refl)
-
-pub said_to : {r : Option Reach} {x : Reach} {l : List Move} → r ≡ Some x → listed r ≡ l → move x.code x.cell x.cost ∷ [] ≡ l
-said_to e q = ap listed (sym e) ∙ q
-
+-- no move is looked at, or one
 pub looked_shut : (g : List ℕ) (f : Found) {l : List Move} → [] ≡ l → f ≡ least_over g f l
 unfolding least_over
 looked_shut g f e = rw (← e) refl

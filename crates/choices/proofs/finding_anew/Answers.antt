@@ -1,28 +1,22 @@
 -- Each return is a case of the method's `renewed`, over what `move_out` answers of the move and what `anew` finds (AskLaws).
 use native.Mathlib.Omega.{arith}
-use Rattle.entries.proofs.AnewLaws.{said_shut, said_to}
 use Rattle.choices.proofs.AskLaws.{enters_by, renews_none, renews_hunter, renews_not, child_findable, renews_at}
 use Rattle.choices.proofs.finding_anew.Goals as goal
 
-pub returns-in_default : goal.returns-in_default
-returns-in_default c = renews_none c.requires (said_shut c.in_default.not-To c.move_out-reach.ensures)
+pub returns-in_err-reach : goal.returns-in_err-reach
+returns-in_err-reach c = rw c.from_residual.ensures (renews_none c.requires c.in_err-reach.ensures)
 
-pub returns-then-s-a : goal.returns-then-s-a
-returns-then-s-a c = let move_open = said_to c.in-To.is c.move_out-reach.ensures in
-    renews_hunter c.requires move_open c.if-s-a.true
+pub returns-then-reach-a : goal.returns-then-reach-a
+returns-then-reach-a c = renews_hunter c.requires c.in_ok-reach.ensures c.if-reach-a.true
 
-pub bounds-parent-s : goal.bounds-parent-s
-bounds-parent-s c = let move_open = said_to c.in-To.is c.move_out-reach.ensures in
-    omega (arith, (enters_by c.requires.leaving move_open).0.inside, c.requires.long_parent)
+pub bounds-ahead-reach : goal.bounds-ahead-reach
+bounds-ahead-reach c = omega (arith, (enters_by c.requires.leaving c.in_ok-reach.ensures).0.inside, c.requires.long_parent)
 
-pub returns-then-parent-s : goal.returns-then-parent-s
-returns-then-parent-s c = let move_open = said_to c.in-To.is c.move_out-reach.ensures in
-    renews_not c.requires move_open c.if-s-a.false c.if-parent-s.true
+pub returns-then-ahead-reach : goal.returns-then-ahead-reach
+returns-then-ahead-reach c = renews_not c.requires c.in_ok-reach.ensures c.if-reach-a.false c.if-ahead-reach.true
 
-pub anew-f-requires : goal.anew-f-requires
-anew-f-requires c = let move_open = said_to c.in-To.is c.move_out-reach.ensures in
-    child_findable c.requires move_open
+pub anew-requires : goal.anew-requires
+anew-requires c = child_findable c.requires c.in_ok-reach.ensures
 
 pub returns : goal.returns
-returns c = let move_open = said_to c.in-To.is c.move_out-reach.ensures in
-    renews_at c.requires move_open c.if-s-a.false c.if-parent-s.false c.anew-f.ensures
+returns c = renews_at c.requires c.in_ok-reach.ensures c.if-reach-a.false c.if-ahead-reach.false c.anew.ensures

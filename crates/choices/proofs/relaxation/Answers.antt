@@ -1,30 +1,24 @@
 -- Each return is a case of the method's `relaxed`, over what `move_out` answers of the move (AskLaws).
 use native.Mathlib.Omega.{arith}
 use Rattle.plan.proofs.MoveLaws.{area}
-use Rattle.entries.proofs.AnewLaws.{said_shut, said_to}
 use Rattle.choices.proofs.AskLaws.{enters_by, relaxes_none, relaxes_hunter, relaxes_not, relaxes_to}
 use Rattle.choices.proofs.relaxation.Goals as goal
 
-pub returns-in_default : goal.returns-in_default
-returns-in_default c = relaxes_none c.requires (said_shut c.in_default.not-To c.move_out-reach.ensures)
+pub returns-in_err-reach : goal.returns-in_err-reach
+returns-in_err-reach c = rw c.from_residual.ensures (relaxes_none c.requires c.in_err-reach.ensures)
 
-pub returns-then-s-a : goal.returns-then-s-a
-returns-then-s-a c = let move_open = said_to c.in-To.is c.move_out-reach.ensures in
-    relaxes_hunter c.requires move_open c.if-s-a.true
+pub returns-then-reach-a : goal.returns-then-reach-a
+returns-then-reach-a c = relaxes_hunter c.requires c.in_ok-reach.ensures c.if-reach-a.true
 
-pub offset_bounds-rhs-s : goal.offset_bounds-rhs-s
-offset_bounds-rhs-s c = let move_open = said_to c.in-To.is c.move_out-reach.ensures in
-    let L = c.requires.leaving in
-    omega (arith, (enters_by L move_open).0.inside, area L.aimed.obeys.size)
+pub offset_bounds-ahead-reach : goal.offset_bounds-ahead-reach
+offset_bounds-ahead-reach c = let L = c.requires.leaving in
+    omega (arith, (enters_by L c.in_ok-reach.ensures).0.inside, area L.aimed.obeys.size)
 
-pub bounds-rhs-s : goal.bounds-rhs-s
-bounds-rhs-s c = let move_open = said_to c.in-To.is c.move_out-reach.ensures in
-    omega (arith, (enters_by c.requires.leaving move_open).0.inside, c.requires.long_rhs)
+pub bounds-ahead-reach : goal.bounds-ahead-reach
+bounds-ahead-reach c = omega (arith, (enters_by c.requires.leaving c.in_ok-reach.ensures).0.inside, c.requires.long_rhs)
 
-pub returns-then-rhs-s : goal.returns-then-rhs-s
-returns-then-rhs-s c = let move_open = said_to c.in-To.is c.move_out-reach.ensures in
-    relaxes_not c.requires move_open c.if-s-a.false c.if-rhs-s.true
+pub returns-then-ahead-reach : goal.returns-then-ahead-reach
+returns-then-ahead-reach c = relaxes_not c.requires c.in_ok-reach.ensures c.if-reach-a.false c.if-ahead-reach.true
 
 pub returns : goal.returns
-returns c = let move_open = said_to c.in-To.is c.move_out-reach.ensures in
-    relaxes_to c.requires move_open c.if-s-a.false c.if-rhs-s.false
+returns c = relaxes_to c.requires c.in_ok-reach.ensures c.if-reach-a.false c.if-ahead-reach.false

@@ -4,7 +4,9 @@ use Rattle.choices.proofs.stale.Goals as goal
 
 pub returns : goal.returns
 returns c = stale_is
+    c.args.ahead.now
     c.requires
-    c.lesser-m.ensures
+    c.min-m.ensures
     c.first_key-first.ensures
-    c.precedes.ensures
+    c.key.ensures
+    c.key-2.ensures
