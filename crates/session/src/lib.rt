@@ -3,7 +3,7 @@
 
 ghost use Rattle.decide.specs.Ruled.{Passed};
 ghost use Rattle.refusal.specs.Numbers.{number_in};
-ghost use Rattle.tables.specs.Lent.{tables};
+ghost use Rattle.tables.specs.Lent.{lent, SameTables};
 ghost use Rattle.session.specs.Refusals.{PlaceRules, OpenRules, TableRules};
 ghost use Rattle.session.specs.Promises.{hunter_at, target_at, Places, Opens};
 
@@ -11,7 +11,7 @@ use entries;
 use plan;
 use refusal::Refusal;
 use tables;
-use tables::Session;
+use tables::{Ahead, Session};
 
 // What a call returns: the record as it leaves it, and done or refused.
 #[derive(Clone, Copy)]
@@ -66,19 +66,14 @@ pub fn check_open(
     target: usize,
     plan: &[u8],
     g: &[u32],
-    rhs: &[u32],
-    parent: &[u8],
-    k1: &[u32],
-    k2: &[u32],
-    place: &[u16],
-    list: &[u16],
+    ahead: &Ahead,
 ) -> Result<(), Refusal>
-    ensures { OpenRules width height hunter target (tables plan.now g.now rhs.now parent.now k1.now k2.now place.now list.now) (number_in result) }
+    ensures { OpenRules width height hunter target (lent plan.now g.now ahead.now) (number_in result) }
 {
     if !plan::is_size(width, height) {
         return Err(Refusal::Size);
     }
-    if !tables::lengths_hold(width, height, plan, g, rhs, parent, k1, k2, place, list) {
+    if !tables::lengths_hold(width, height, plan, g, ahead) {
         return Err(Refusal::Length);
     }
     let cells = height * width;
@@ -102,22 +97,16 @@ pub fn open(
     target: usize,
     plan: &[u8],
     g: &mut [u32],
-    rhs: &mut [u32],
-    parent: &mut [u8],
-    k1: &mut [u32],
-    k2: &mut [u32],
-    place: &mut [u16],
-    list: &mut [u16],
+    ahead: &mut Ahead,
 ) -> Reply
-    ensures { Opens width height hunter target (tables plan.now g.old rhs.old parent.old k1.old k2.old place.old list.old) result (tables plan.now g.new rhs.new parent.new k1.new k2.new place.new list.new) }
+    ensures opens { Opens width height hunter target (lent plan.now g.old ahead.old) result (lent plan.now g.new ahead.new) }
+    ensures same_tables { SameTables ahead.old ahead.new }
 {
-    let checked = check_open(
-        width, height, hunter, target, plan, g, rhs, parent, k1, k2, place, list,
-    );
+    let checked = check_open(width, height, hunter, target, plan, g, ahead);
     match checked {
         Ok(()) => {
             let placed = entries::placed_on(width, height, hunter, target);
-            let begun = entries::begin(placed, plan, g, rhs, parent, k1, k2, place, list);
+            let begun = entries::begin(placed, plan, g, ahead);
             Reply {
                 session: begun,
                 answer: Ok(()),
@@ -132,26 +121,16 @@ pub fn open(
 
 // Are the tables of a session of its size, and sound?
 #[tactic(auto, using(decide::proofs::RuledLaws::in_order))]
-pub fn check_tables(
-    s: Session,
-    plan: &[u8],
-    g: &[u32],
-    rhs: &[u32],
-    parent: &[u8],
-    k1: &[u32],
-    k2: &[u32],
-    place: &[u16],
-    list: &[u16],
-) -> Result<(), Refusal>
-    ensures { TableRules s (tables plan.now g.now rhs.now parent.now k1.now k2.now place.now list.now) Passed (number_in result) }
+pub fn check_tables(s: Session, plan: &[u8], g: &[u32], ahead: &Ahead) -> Result<(), Refusal>
+    ensures { TableRules s (lent plan.now g.now ahead.now) Passed (number_in result) }
 {
     if !plan::is_size(s.width, s.height) {
         return Err(Refusal::Size);
     }
-    if !tables::lengths_hold(s.width, s.height, plan, g, rhs, parent, k1, k2, place, list) {
+    if !tables::lengths_hold(s.width, s.height, plan, g, ahead) {
         return Err(Refusal::Length);
     }
-    if !tables::is_sound(s, plan, g, rhs, parent, k1, k2, place, list) {
+    if !tables::is_sound(s, plan, g, ahead) {
         return Err(Refusal::Tables);
     }
     Ok(())
