@@ -1,8 +1,10 @@
 -- The loop over the tables is the method's run.
 use mathlib.Core.Path.{◌≡◌, refl, sym, ap, subst, ◌∙◌}
-use mathlib.Core.Bool.{Bool, true, false}
+use mathlib.Core.Bool.{Bool, true, false, not, false≢true}
+use Rattle.std.proofs.Common.{Option, Some, None}
+use Rattle.std.specs.Option.{is_some}
 use mathlib.Core.Logic.{⊎_elim}
-use mathlib.Core.Option.{some}
+use mathlib.Core.Option.{some, none}
 use mathlib.Core.List.{List, []}
 use Prim.Native.Nat.{ℕ, suc, ◌+◌, ◌-◌, ◌≤◌, ◌<◌}
 use native.Mathlib.Omega.{arith}
@@ -17,22 +19,24 @@ use Rattle.method.specs.During.{most, During}
 use Rattle.method.proofs.Growth.{up_to_more, during_up_to}
 use Rattle.method.proofs.Running.{run_zero, run_none, run_some, pick_next, during_step, step_on}
 use Rattle.method.proofs.Stepping.{stepped_sized}
-use Rattle.tables.specs.Lent.{Tables, tables, core}
+use Rattle.tables.specs.declared.Ahead.{Ahead}
+use Rattle.tables.specs.Lent.{Tables, tables, lent, core}
 use Rattle.entries.specs.declared.Aim.{Aim}
 use Rattle.entries.specs.Aims.{area, hunt, most_g, Aimed, Held, Ready}
 use Rattle.entries.specs.Became.{Became}
 use Rattle.entries.proofs.SmallLaws.{small_by}
-use Rattle.choices.specs.Next.{Choosing, Chosen, next_of}
+use Rattle.choices.specs.Next.{Choosing, next_of}
 use Rattle.steps.specs.Ready.{Stepping}
 use Rattle.steps.specs.Loop.{Started, Finished}
-use Rattle.choices.specs.declared.Choice.{Choice}
-use Rattle.choices.specs.declared.Choice.TheVariants.{Done, On}
 use Rattle.steps.proofs.StepLaws.{became_held}
 
--- a choice that is on no cell
-pub done_unless : {r : Choice} → ((u : ℕ) → r ≡ On u → ⊥) → r ≡ Done
-done_unless {r = Done} n = refl
-done_unless {r = On u} n = absurd (n u refl)
+-- no cell is chosen: the method has none
+none_left : (r : Option ℕ) (b : Bool) → is_some r ≡ not b → is_none (next_of r) ≡ b
+unfolding is_none
+none_left None true e = refl
+none_left None false e = absurd (false≢true e)
+none_left (Some u) true e = absurd (false≢true (sym e))
+none_left (Some u) false e = refl
 
 -- what the rest of a run still does is what the whole run does
 pub record Rest (H : Hunt) (T₀ T : method.Tables) (limit steps : ℕ) : Type 0 where
@@ -87,23 +91,10 @@ module _ {a : Aim} {count₀ count limit steps : ℕ} {t₀ : Tables} {plan g rh
     small_rhs = small_by rhs (area a) G.held.sized.rhs small.rhs;
   }
 
-  pub choosing : Choosing a count g rhs k1 k2 place list
-  choosing = record {
-    size = A.obeys.size;
-    target_in = A.target_in;
-    in_g = G.held.sized.g;
-    in_rhs = G.held.sized.rhs;
-    heap = G.held.heap;
-    goal = λ n. ⊎_elim (λ (e : get_or rhs a.target 0 ≡ infinite). absurd (n e)) (λ (h : get_or rhs a.target 0 ≤ most_g). omega (arith, A.km_le)) (ready.small_rhs a.target);
-  }
-
   -- the cell chosen is one to step on
-  module _ {u : ℕ} {r : Choice} (e : r ≡ On u) (C : Chosen a g rhs k1 k2 place r) where
-    next_on : next_cell (hunt a plan) (core (tables plan g rhs parent k1 k2 place list)) ≡ some u
-    next_on = sym (C plan parent list) ∙ ap next_of e
-
+  module _ {u : ℕ} (next : some u ≡ next_cell (hunt a plan) (core (tables plan g rhs parent k1 k2 place list))) where
     pub stepping : Stepping a count u (tables plan g rhs parent k1 k2 place list)
-    stepping = let P = pick_next G.during next_on in record { ready = ready; inside = P.u_in; differ = P.queued }
+    stepping = let P = pick_next G.during (sym next) in record { ready = ready; inside = P.u_in; differ = P.queued }
 
     pub going_more : {n : ℕ} {g' rhs' parent' k1' k2' place' list' : List ℕ} → steps < limit
         → Became a n (tables plan g' rhs' parent' k1' k2' place' list') (stepped (hunt a plan) (core (tables plan g rhs parent k1 k2 place list)) u)
@@ -111,11 +102,23 @@ module _ {a : Aim} {count₀ count limit steps : ℕ} {t₀ : Tables} {plan g rh
     going_more l B = record {
       held = became_held (stepped_sized G.held.sized (hunt a plan) u) B;
       bound = G.bound;
-      during = subst (During (hunt a plan) G.bound) (sym B.is) (during_step G.during next_on);
+      during = subst (During (hunt a plan) G.bound) (sym B.is) (during_step G.during (sym next));
       small = G.small;
-      rest = subst (λ T. Rest (hunt a plan) (core t₀) T limit (steps + 1)) (sym B.is) (rest_more (hunt a plan) (core t₀) (core (tables plan g rhs parent k1 k2 place list)) limit steps u G.rest l next_on);
+      rest = subst (λ T. Rest (hunt a plan) (core t₀) T limit (steps + 1)) (sym B.is)
+          (rest_more (hunt a plan) (core t₀) (core (tables plan g rhs parent k1 k2 place list)) limit steps u G.rest l (sym next));
       untouched = λ e. absurd (omega (arith, e));
     }
+
+-- the next cell can be chosen
+pub choosing : {a : Aim} {count₀ count limit steps : ℕ} {t₀ : Tables} {plan g : List ℕ} {t : Ahead} → Aimed a plan → Going a plan count₀ count t₀ (lent plan g t) limit steps → Choosing a count g t
+choosing {a} {t = t} A G = record {
+  size = A.obeys.size;
+  target_in = A.target_in;
+  in_g = G.held.sized.g;
+  in_rhs = G.held.sized.rhs;
+  heap = G.held.heap;
+  goal = λ n. ⊎_elim (λ (e : get_or t.rhs.now a.target 0 ≡ infinite). absurd (n e)) (λ (h : get_or t.rhs.now a.target 0 ≤ most_g). omega (arith, A.km_le)) ((ready A G).small_rhs a.target);
+}
 
 module _ {a : Aim} {count₀ count limit steps : ℕ} {plan g₀ rhs₀ parent₀ k1₀ k2₀ place₀ list₀ g rhs parent k1 k2 place list : List ℕ}
     (G : Going a plan count₀ count (tables plan g₀ rhs₀ parent₀ k1₀ k2₀ place₀ list₀) (tables plan g rhs parent k1 k2 place list) limit steps) where
@@ -131,18 +134,19 @@ module _ {a : Aim} {count₀ count limit steps : ℕ} {plan g₀ rhs₀ parent�
   }
 
   -- no next cell: the search has ended
-  pub finished_done : {r : Choice} → r ≡ Done → Chosen a g rhs k1 k2 place r
+  pub finished_done : none ≡ next_cell (hunt a plan) (core (tables plan g rhs parent k1 k2 place list))
       → Finished a limit count₀ (tables plan g₀ rhs₀ parent₀ k1₀ k2₀ place₀ list₀) (tables plan g rhs parent k1 k2 place list) count steps true
-  finished_done e C = finished_by (ap (λ r. r.tables) none_left) (ap (λ r. length r.steps) none_left) (ap (λ r. r.ended) none_left)
+  finished_done e = finished_by (ap (λ r. r.tables) none_left) (ap (λ r. length r.steps) none_left) (ap (λ r. r.ended) none_left)
     where
       none_left : run (hunt a plan) (limit - steps) (core (tables plan g rhs parent k1 k2 place list)) ≡ record { tables = core (tables plan g rhs parent k1 k2 place list); steps = []; ended = true }
-      none_left = run_none (hunt a plan) (limit - steps) (core (tables plan g rhs parent k1 k2 place list)) (sym (C plan parent list) ∙ ap next_of e)
+      none_left = run_none (hunt a plan) (limit - steps) (core (tables plan g rhs parent k1 k2 place list)) (sym e)
 
-  -- the limit is reached and there is a next cell: the search was cut off
-  pub finished_cut : {u : ℕ} {r : Choice} → r ≡ On u → Chosen a g rhs k1 k2 place r → limit ≤ steps
-      → Finished a limit count₀ (tables plan g₀ rhs₀ parent₀ k1₀ k2₀ place₀ list₀) (tables plan g rhs parent k1 k2 place list) count steps false
-  unfolding is_none
-  finished_cut {u} e C l = finished_by (ap (λ r. r.tables) cut) (ap (λ r. length r.steps) cut) (ap (λ r. r.ended) cut ∙ ap is_none (sym (C plan parent list) ∙ ap next_of e))
+  -- the limit is reached: the search has ended if there is no next cell
+  pub finished_cut : (r : Option ℕ) {b : Bool} → limit ≤ steps → next_of r ≡ next_cell (hunt a plan) (core (tables plan g rhs parent k1 k2 place list)) → is_some r ≡ not b
+      → Finished a limit count₀ (tables plan g₀ rhs₀ parent₀ k1₀ k2₀ place₀ list₀) (tables plan g rhs parent k1 k2 place list) count limit b
+  finished_cut r {b} l e q =
+      subst (λ k. Finished a limit count₀ (tables plan g₀ rhs₀ parent₀ k1₀ k2₀ place₀ list₀) (tables plan g rhs parent k1 k2 place list) count k b) (omega (arith, G.rest.fuel, l))
+      (finished_by (ap (λ r. r.tables) cut) (ap (λ r. length r.steps) cut) (ap (λ r. r.ended) cut ∙ ap is_none (sym e) ∙ none_left r b q))
     where
       over : (limit steps : ℕ) → limit ≤ steps → limit - steps ≡ 0
       over limit steps h = omega arith

@@ -3,6 +3,7 @@ use mathlib.Core.Path.{◌≡◌, refl, sym, ap, subst, ◌∙◌}
 use mathlib.Core.Bool.{Bool, true, false}
 use mathlib.Core.Logic.{◌⊎◌, ⊎_elim, ◌≢◌}
 use mathlib.Core.List.{List}
+use Rattle.std.proofs.Common.{Option, Some, None}
 use Prim.Native.Nat.{ℕ, ◌+◌, ◌≤◌, ◌<◌}
 use native.Mathlib.Numerals.{add-one}
 use native.Mathlib.Omega.{arith}
@@ -23,14 +24,13 @@ use Rattle.plan.specs.Reached.{At, Placed}
 use Rattle.plan.specs.declared.Spot.{Spot}
 use Rattle.plan.proofs.CellLaws.{stands_row, stands_column}
 use Rattle.plan.proofs.MoveLaws.{placed, moved_at}
-use Rattle.tables.specs.Lent.{Tables, tables, core}
+use Rattle.tables.specs.declared.Ahead.{Ahead}
+use Rattle.tables.specs.Lent.{Tables, tables, lent, core}
 use Rattle.entries.specs.declared.Aim.{Aim}
 use Rattle.entries.specs.Aims.{area, floor, hunt, most_g, most_rhs, Held, Small, Ready, ReadyAt}
 use Rattle.entries.specs.Became.{Became, Entering, obeyed, Taking, Taken}
 use Rattle.entries.proofs.FoundLaws.{small_set, small_more, key_fits, sited, entering, taking, became_as}
-use Rattle.entries.specs.declared.Found.{Found}
 use Rattle.entries.specs.declared.Asked.{Asked}
-use Rattle.entries.specs.declared.Asked.TheVariants.{Keeps, Takes}
 use Rattle.choices.specs.Moves.{Enters, Fair, Leaving, Relaxing, Renewing, Keyed}
 use Rattle.steps.specs.Ready.{Facing, Obeying, Obeyed, Lowering, Stepping}
 
@@ -104,8 +104,8 @@ module _ {a : Aim} {count u d : ℕ} {at : Spot} {plan g rhs parent k1 k2 place 
   pub renewing : Renewing a plan g parent u d
   renewing = record { leaving = leaving; long_g = F.here.ready.held.sized.g; small_g = F.here.ready.small_g; long_parent = F.here.ready.held.sized.parent }
 
-  pub obeying : {r : Asked} → Fair a u d r → Obeying a count at d r g rhs parent k1 k2 place list
-  obeying f = record { plan = plan; u = u; facing = F; fair = f }
+pub obeying : {a : Aim} {count u d : ℕ} {at : Spot} {r : Option Asked} {plan g : List ℕ} {t : Ahead} → Facing a count u at d (lent plan g t) → Fair a u d r → Obeying a count at d r g t
+obeying F f = record { plan = _; u = _; facing = F; fair = f }
 
 -- ---- the cell entered
 
@@ -126,30 +126,29 @@ module _ {a : Aim} {count u d s : ℕ} {at : Spot} {t : Tables} (F : Facing a co
 
 -- ---- what is asked of it is done
 
-module _ {a : Aim} {count : ℕ} {at : Spot} {d : ℕ} {r : Asked} {g rhs parent k1 k2 place list : List ℕ} (O : Obeying a count at d r g rhs parent k1 k2 place list) where
-  pub obeyed_kept : r ≡ Keeps → Obeyed a r g rhs parent k1 k2 place list count rhs parent k1 k2 place list
+module _ {a : Aim} {count : ℕ} {at : Spot} {d : ℕ} {r : Option Asked} {g : List ℕ} {t : Ahead} (O : Obeying a count at d r g t) where
+  pub obeyed_kept : r ≡ None → Obeyed a r g t count t
   obeyed_kept e = record {
-    became = λ plan. became_as (record { is = refl; heap = O.facing.here.ready.held.heap }) (ap (obeyed (hunt a plan) (core (tables plan g rhs parent k1 k2 place list))) (sym e));
+    became = λ plan. became_as (record { is = refl; heap = O.facing.here.ready.held.heap }) (ap (obeyed (hunt a plan) (core (lent plan g t))) (sym e));
     small_rhs = O.facing.here.ready.small_rhs;
   }
 
-  module _ {s : ℕ} {f : Found} (e : r ≡ Takes s f) where
-    fair : Fair a O.u d (Takes s f)
+  module _ {x : Asked} (e : r ≡ Some x) where
+    fair : Fair a O.u d (Some x)
     fair = subst (Fair a O.u d) e O.fair
 
     pub obeying_move : ((d < 4) × Placed at) × ((1 ≤ at.row + row_step d) × (1 ≤ at.column + column_step d))
     obeying_move = move_asks O.facing fair.0
 
-    pub obeying_take : {to : Spot} → (to.row + 1 ≡ at.row + row_step d) × (to.column + 1 ≡ at.column + column_step d) → Taking a count s to f g rhs parent k1 k2 place list
+    pub obeying_take : {to : Spot} → (to.row + 1 ≡ at.row + row_step d) × (to.column + 1 ≡ at.column + column_step d) → Taking a count x.cell to x.found g t
     obeying_take w = taking (entered_ready O.facing fair.0 w) fair.1
 
-    pub obeyed_taken : {n : ℕ} {rhs' parent' k1' k2' place' list' : List ℕ} → Taken a s f g rhs parent k1 k2 place list n rhs' parent' k1' k2' place' list'
-        → Obeyed a r g rhs parent k1 k2 place list n rhs' parent' k1' k2' place' list'
+    pub obeyed_taken : {n : ℕ} {t' : Ahead} → Taken a x.cell x.found g t n t' → Obeyed a r g t n t'
     obeyed_taken T =
         let R = O.facing.here.ready in
         record {
-          became = λ plan. became_as (T.became plan) (ap (obeyed (hunt a plan) (core (tables plan g rhs parent k1 k2 place list))) (sym e));
-          small_rhs = subst (Small most_rhs) (sym T.rhs_is) (small_set rhs s f.rhs (omega (arith, R.held.sized.rhs, fair.0.inside)) fair.1 R.small_rhs);
+          became = λ plan. became_as (T.became plan) (ap (obeyed (hunt a plan) (core (lent plan g t))) (sym e));
+          small_rhs = subst (Small most_rhs) (sym T.rhs_is) (small_set t.rhs.now x.cell x.found.rhs (omega (arith, R.held.sized.rhs, fair.0.inside)) fair.1 R.small_rhs);
         }
 
 -- ---- the directions of a step, one after the other

@@ -1,15 +1,11 @@
 -- After d directions the tables are the method's with the moves of those directions relaxed.
-use Prim.Native.Nat.{◌-◌}
 use Rattle.method.specs.Steps.{relaxed_all}
 use Rattle.plan.specs.Grid.{out_by, up_to}
-use Rattle.tables.specs.Lent.{tables, core}
+use Rattle.tables.specs.Lent.{lent, core, SameTables}
 use Rattle.entries.specs.Aims.{floor, hunt}
 use Rattle.steps.proofs.StepLaws.{Looked}
 use Rattle.steps.proofs.lower.Given as goal
 
 abbrev pub invariant-loop-d : goal.invariant-loop-d
-invariant-loop-d l = Looked l.a l.n l.d (tables l.plan l.g l.rhs l.parent l.k1 l.k2 l.place l.list)
-    (relaxed_all (hunt l.a l.plan) l.v (core (tables l.plan l.g l.initial.rhs l.initial.parent l.initial.k1 l.initial.k2 l.initial.place l.initial.list)) (up_to (out_by (floor l.a l.plan) l.u) l.d))
-
-abbrev pub decreases-loop-d : goal.decreases-loop-d
-decreases-loop-d l = 4 - l.d
+invariant-loop-d l = Looked l.a l.n l.d (lent l.plan l.g l.ahead) (relaxed_all (hunt l.a l.plan) l.v (core (lent l.plan l.g l.initial.ahead)) (up_to (out_by (floor l.a l.plan) l.u) l.d))
+    × SameTables l.initial.ahead l.ahead

@@ -3,10 +3,7 @@ use Rattle.steps.proofs.StepLaws.{obeying_move, obeying_take}
 use Rattle.steps.proofs.obey.Goals as goal
 
 pub moved-to-requires-clause-bound : goal.moved-to-requires-clause-bound
-moved-to-requires-clause-bound c = (obeying_move c.requires c.in-Takes.is).1
+moved-to-requires-clause-bound c = (obeying_move c.requires c.in-Some.is).1
 
 pub take-requires : goal.take-requires
-take-requires c = obeying_take
-    c.requires
-    c.in-Takes.is
-    c.moved-to.ensures
+take-requires c = obeying_take c.requires c.in-Some.is c.moved-to.ensures

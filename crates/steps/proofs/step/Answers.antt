@@ -3,17 +3,11 @@ use Rattle.entries.proofs.FoundLaws.{became_as}
 use Rattle.steps.proofs.StepLaws.{put_back_is, lowered_is, raised_is}
 use Rattle.steps.proofs.step.Goals as goal
 
-pub returns-then-stale : goal.returns-then-stale
-returns-then-stale c =
-    let stale_is = c.stale.ensures c.args.plan.now c.args.parent.now c.args.place.now c.args.list.now in
-    became_as (c.set_right.ensures.entered _ _) (put_back_is _ _ _ stale_is c.if-stale.true c.requires.differ)
+pub returns-then-stale-clause-became : goal.returns-then-stale-clause-became
+returns-then-stale-clause-became c = became_as (c.set_right.ensures.entered.became _) (put_back_is _ _ _ (c.stale.ensures c.args.plan.now) c.if-stale.true c.requires.differ)
 
-pub returns-then-rhs-u : goal.returns-then-rhs-u
-returns-then-rhs-u c =
-    let stale_is = c.stale.ensures c.args.plan.now c.args.parent.now c.args.place.now c.args.list.now in
-    became_as c.lower.ensures (lowered_is _ _ _ stale_is c.if-stale.false c.if-rhs-u.true)
+pub returns-then-ahead-u-clause-became : goal.returns-then-ahead-u-clause-became
+returns-then-ahead-u-clause-became c = became_as c.lower.ensures.became (lowered_is _ _ _ (c.stale.ensures c.args.plan.now) c.if-stale.false c.if-ahead-u.true)
 
-pub returns : goal.returns
-returns c =
-    let stale_is = c.stale.ensures c.args.plan.now c.args.parent.now c.args.place.now c.args.list.now in
-    became_as c.raise.ensures (raised_is _ _ _ stale_is c.if-stale.false c.if-rhs-u.false)
+pub returns-clause-became : goal.returns-clause-became
+returns-clause-became c = became_as c.raise.ensures.became (raised_is _ _ _ (c.stale.ensures c.args.plan.now) c.if-stale.false c.if-ahead-u.false)
