@@ -27,14 +27,6 @@ pub keep_more : {lt : ℕ → ℕ → Bool} {count i p : ℕ} {place₀ list₀ 
 keep_more {lt} {count} {i} {p} k u d h o =
     absurd (true≢false (sym h ∙ ap (λ (l : List ℕ). lt (get_or l i 0) (get_or l p 0)) (k o).1 ∙ o.holds p i u d))
 
--- One after the other.
-pub keep_both : {lt : ℕ → ℕ → Bool} {count : ℕ} {place₀ list₀ place list place' list' : List ℕ} → KeepsHeap lt count place₀ list₀ place list → KeepsHeap lt count place list place' list'
-    → KeepsHeap lt count place₀ list₀ place' list'
-keep_both {lt} {count} a b o =
-    let q = a o in
-    let r = b (subst (λ (l : List ℕ). Ordered lt count l) (sym q.1) o) in
-    (r.0 ∙ q.0, r.1 ∙ q.1)
-
 -- The place above place i.
 pub above : {i : ℕ} → 0 < i → Under ((i - 1) / 2) i
 above h = record { low = omega arith; high = omega arith }

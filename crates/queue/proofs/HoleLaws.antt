@@ -1,5 +1,5 @@
 -- A cell in hand and an empty place, read as if the cell stood there: passing an entry, which is one store in list and places, is an exchange of the tables so read.
-use mathlib.Core.Path.{◌≡◌, refl, sym, subst, ◌∙◌}
+use mathlib.Core.Path.{◌≡◌, sym, subst, ◌∙◌}
 use mathlib.Core.Bool.{Bool, true, false}
 use mathlib.Core.List.{List}
 use Prim.Native.Nat.{ℕ, ◌+◌, ◌≤◌, ◌<◌}
@@ -11,10 +11,10 @@ use Rattle.decide.proofs.OrderLaws.{split}
 use Rattle.queue.specs.declared.Entry.{Entry}
 use Rattle.queue.specs.Order.{before}
 use Rattle.queue.specs.Queue.{members, Under, Ordered}
-use Rattle.queue.specs.Sift.{Loose, Low, Risen, Held, Sifted, Stands, place_after, list_after, EntryOf, Compares, Lesser}
+use Rattle.queue.specs.Sift.{Loose, Low, Risen, Held, Stands, place_after, list_after, EntryOf, Compares, Lesser}
 use Rattle.queue.proofs.OrderLaws.{one_way}
 use Rattle.queue.proofs.KeyLaws.{compared}
-use Rattle.queue.proofs.HeapLaws.{Swapped, keep_both, rise, stay_over, stay_last}
+use Rattle.queue.proofs.HeapLaws.{Swapped, rise, stay_over, stay_last}
 use Rattle.queue.proofs.PlaceLaws.{apart}
 use Rattle.queue.proofs.SiftLaws.{has_key, exchanged}
 
@@ -61,13 +61,6 @@ module _ {width room count c i : ℕ} {k1 k2 place list : List ℕ} (h : Held wi
     small_place = omega (arith, long_place, h.tables.agree.small);
   }
 
-  -- Once it is, the tables are as long as they were.
-  pub stood_place : {place' : List ℕ} → place' ≡ set place c i → length place' ≡ room
-  stood_place e = rw e h.tables.agree.length_place
-
-  pub stood_list : {list' : List ℕ} → list' ≡ set list i c → length list' ≡ room
-  stood_list e = rw e h.tables.agree.length_list
-
   -- Cell o at another place, p.
   module _ {p o : ℕ} (bp : p < count) (away : p ≡ i → ⊥) (at : o ≡ get_or list p 0) where
     as_it_is : get_or (set list i c) p 0 ≡ o
@@ -113,18 +106,6 @@ module _ {width room count c i : ℕ} {k1 k2 place list : List ℕ} (h : Held wi
     named = λ x u b. rw (get_or-set_other list i x c 0 (λ e. omega (arith, u.low))) at (has_key h.tables b).0;
   }
 
--- Not moved at first, and then from there to i.
-pub from_there : {width count cell start j i : ℕ} {k1 k2 place list place₁ list₁ place' list' : List ℕ} {P Q : (ℕ → ℕ → Bool) → List ℕ → Type 0}
-    → j ≡ start → Sifted width count cell start j k1 k2 place list place₁ list₁ P → Sifted width count cell j i k1 k2 place₁ list₁ place' list' Q
-    → Sifted width count cell start i k1 k2 place list place' list' Q
-from_there here a b = record {
-  held = held_as b.held (long_list a.held);
-  membership = b.membership ∙ a.membership;
-  shape = b.shape;
-  keeps = keep_both a.keeps b.keeps;
-  unmoved = λ e. let first = a.unmoved here in let then = b.unmoved (e ∙ sym here) in (then.0 ∙ first.0, then.1 ∙ first.1);
-}
-
 -- The lesser of the entries right under the empty place, whatever stands there.
 pub lesser_meant : {lt : ℕ → ℕ → Bool} {count i m : ℕ} {list : List ℕ} (c : ℕ) → Lesser lt count i m list → Lesser lt count i m (set list i c)
 lesser_meant {lt} {count} {i} {m} {list} c n = record {
@@ -151,10 +132,6 @@ pub record Rising (lt : ℕ → ℕ → Bool) (count start i : ℕ) (l : List �
   pub loose : Loose lt count i l
   pub higher : i ≤ start
   pub rests : (i ≡ start → ⊥) → Rests lt count i l
-
--- It has not moved yet.
-pub not_risen : {lt : ℕ → ℕ → Bool} {count i : ℕ} {l : List ℕ} → Loose lt count i l → Rising lt count i i l
-not_risen g = record { loose = g; higher = omega arith; rests = λ moved. absurd (moved refl) }
 
 module _ {lt : ℕ → ℕ → Bool} (order : Order lt) {count start : ℕ} where
   -- It comes before the entry above it, at p, and goes up: that one, and the other under it, belong under it.

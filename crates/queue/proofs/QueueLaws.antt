@@ -9,7 +9,7 @@ use lib.Seq.{get_or-set_same, get_or-set_other, set-get_or}
 use Rattle.queue.specs.Queue.{absent, most, is_place, members, Heap, Changed, Least, LeastOf}
 use Rattle.queue.proofs.OrderLaws.{before_order}
 use Rattle.queue.proofs.MemberLaws.{missing, is_absent, length_members, member_at, member_place, set_same}
-use Rattle.queue.proofs.PlaceLaws.{place_used, counted}
+use Rattle.queue.proofs.PlaceLaws.{counted}
 
 -- ---- heaps
 
@@ -120,7 +120,3 @@ module _ {width room count c : ℕ} {k1 k2 place list : List ℕ} (h : Heap widt
 
   pub least_place : (c < room) × (get_or place c 0 ≡ absent → ⊥)
   least_place = let m = member_place place c least_of.member in (omega (arith, m.0, h.tables.agree.length_place), m.1)
-
--- Where a cell is queued the queue is not empty.
-pub some_queued : {width room count c : ℕ} {k1 k2 place list : List ℕ} → Heap width room count k1 k2 place list → c < room → (get_or place c 0 ≡ absent → ⊥) → 0 < count
-some_queued h b q = omega (arith, (place_used h.tables.agree b q).0)

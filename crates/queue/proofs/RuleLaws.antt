@@ -1,16 +1,10 @@
 -- The tables hold a true heap exactly if every place of the list and every cell obeys its rule.
-use mathlib.Core.Path.{◌≡◌, sym, ap, ◌∙◌}
-use mathlib.Core.Bool.{Bool, true, false, not}
+use mathlib.Core.Path.{◌≡◌}
 use mathlib.Core.Logic.{◌⊎◌, inl, inr}
 use mathlib.Core.List.{List}
 use Prim.Native.Nat.{ℕ, ◌-◌, ◌/◌, ◌≤◌, ◌<◌}
 use native.Mathlib.Omega.{arith}
-use lib.Dec.{eqb}
 use lib.ListN.{get_or}
-use borrow.Author.Tests.{not-true}
-use Rattle.decide.specs.Decides.{Decides}
-use Rattle.decide.proofs.DecideLaws.{decides_yes, decides_no, decides_eq}
-use Rattle.queue.specs.Order.{before}
 use Rattle.queue.specs.Queue.{absent, most, Agree, Heap}
 use Rattle.queue.specs.Rules.{EntryRule, AbsentRule, QueuedRule, Lengths}
 use Rattle.queue.proofs.HeapLaws.{above, above_inside}
@@ -73,42 +67,3 @@ module _ {width room count : ℕ} {k1 k2 place list : List ℕ} where
 
     pub queued_rule : (c : ℕ) → c < room → (get_or place c 0 ≡ absent → ⊥) → QueuedRule count place list c
     queued_rule c d n = let q = place_used h.tables.agree d n in record { used = q.0; named = q.1 }
-
--- ---- the rules as the code tests them, return by return
-
-used_so : (room : ℕ) (place list : List ℕ) (i c at : ℕ) → c ≡ get_or list i 0 → at ≡ get_or place c 0 → c < room → at ≡ i → (get_or list i 0 < room) × (get_or place (get_or list i 0) 0 ≡ i)
-used_so room place list i c at e f w z = (rw (← e) w, rw (← e) (sym f ∙ z))
-
-module _ {width room count : ℕ} {k1 k2 place list : List ℕ} {i c : ℕ} (e : c ≡ get_or list i 0) where
-  pub entry_unused : count ≤ i → Decides (eqb c absent) (EntryRule width room count k1 k2 place list i)
-  entry_unused g =
-      decides_eq c absent
-      (λ q. record { used = λ l. absurd (omega arith); above = λ l. absurd (omega arith); unused = λ _. sym e ∙ q })
-      (λ R. e ∙ R.unused g)
-
-  pub entry_wild : i < count → room ≤ c → Decides false (EntryRule width room count k1 k2 place list i)
-  entry_wild l w = decides_no (λ R. omega (arith, (R.used l).0))
-
-  module _ (l : i < count) {at : ℕ} (f : at ≡ get_or place c 0) where
-    pub entry_astray : (at ≡ i → ⊥) → Decides false (EntryRule width room count k1 k2 place list i)
-    entry_astray n = decides_no (λ R. n (f ∙ rw (← e) at (R.used l).1))
-
-    pub entry_first : c < room → at ≡ i → i ≡ 0 → Decides true (EntryRule width room count k1 k2 place list i)
-    entry_first w z o = decides_yes (record { used = λ _. used_so room place list i c at e f w z; above = λ _ p. absurd (omega arith); unused = λ g. absurd (omega arith) })
-
-    module _ (p : i ≡ 0 → ⊥) {d : ℕ} (g : d ≡ get_or list ((i - 1) / 2) 0) where
-      pub entry_under_wild : room ≤ d → Decides false (EntryRule width room count k1 k2 place list i)
-      entry_under_wild w = decides_no (λ R. omega (arith, (R.above l (omega arith)).named))
-
-      pub entry_under : c < room → at ≡ i → d < room → {r : Bool} → r ≡ before width k1 k2 c d → Decides (not r) (EntryRule width room count k1 k2 place list i)
-      entry_under w z v {r} q = record {
-        so = λ h. record {
-          used = λ _. used_so room place list i c at e f w z;
-          above = λ _ _. record { named = rw (← g) v; ordered = rw (← e, ← g) (sym q ∙ not-true r h) };
-          unused = λ k. absurd (omega arith);
-        };
-        whenever = λ R. false_not r (q ∙ rw (← e, ← g) at (R.above l (omega arith)).ordered);
-      }
-        where
-          false_not : (r : Bool) → r ≡ false → not r ≡ true
-          false_not r h = ap not h

@@ -81,10 +81,11 @@ pub record Lesser (lt : ℕ → ℕ → Bool) (count i m : ℕ) (list : List ℕ
 abbrev pub HeldIn : Queue → (cell i : ℕ) → Type 0
 HeldIn q cell i = Held q.width (length q.list.now) q.count cell i q.k1.now q.k2.now q.place.now q.list.now
 
--- With the cell at place i the list is a binary heap, but that the cell may belong higher or lower; or lower only.
+-- With the cell at place i the list is a binary heap, but that the cell may belong higher or lower.
 abbrev pub LooseIn : Queue → (cell i : ℕ) → Type 0
 LooseIn q cell i = Loose (before q.width q.k1.now q.k2.now) q.count i (set q.list.now i cell)
 
+-- The same, and it can belong lower only.
 abbrev pub LowIn : Queue → (cell i : ℕ) → Type 0
 LowIn q cell i = Low (before q.width q.k1.now q.k2.now) q.count i (set q.list.now i cell)
 

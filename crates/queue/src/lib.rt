@@ -15,6 +15,15 @@ ghost use Rattle.queue.specs.Sift.{Risen, Stands, EntryOf, Compares, Lesser, Hel
 // The place of a cell that is not queued, and the content of an unused place of the list.
 pub const ABSENT: u16 = 65535;
 
+// Does cell a come before cell b where their keys are equal? The smaller column, then the smaller row.
+#[tactic(auto, unfolding(decide::specs::Order::less_or, decide::specs::Order::column_first))]
+fn tie_before(width: usize, a: usize, b: usize) -> bool
+    requires { 0 < width }
+    ensures { result ≡ column_first width a b }
+{
+    (a % width, a) < (b % width, b)
+}
+
 // An entry in hand: a cell, and its key as one number, k1 in its upper half. Keys are ordered as these numbers are, and one test compares two.
 #[derive(Clone, Copy)]
 struct Entry {
@@ -28,21 +37,17 @@ impl Entry {
         requires { (cell < length k1.now) × (length k2.now ≡ length k1.now) }
         ensures { EntryOf k1.now k2.now cell result }
     {
-        Entry {
-            cell,
-            key: u64::from(k1[cell]) << 32 | u64::from(k2[cell]),
-        }
+        let key = u64::from(k1[cell]) << 32 | u64::from(k2[cell]);
+        Entry { cell, key }
     }
 
-    // Does it come before the other? Where their keys are equal, the smaller column decides, then the smaller row; else no division is made.
-    #[tactic(auto, unfolding(decide::specs::Order::less_or, decide::specs::Order::column_first))]
+    // Does it come before the other? Only where their keys are equal are the columns found, by two divisions.
+    #[tactic(auto, unfolding(decide::specs::Order::less_or))]
     fn comes_before(self, other: Entry, width: usize) -> bool
         requires { 0 < width }
         ensures { result ≡ less_or self.key other.key (column_first width self.cell other.cell) }
     {
-        self.key < other.key
-            || self.key == other.key
-                && (self.cell % width, self.cell) < (other.cell % width, other.cell)
+        self.key < other.key || self.key == other.key && tie_before(width, self.cell, other.cell)
     }
 }
 
@@ -95,6 +100,7 @@ impl<'a> Queue<'a> {
         ensures keys_stay { KeysStay self.old self.new }
         ensures sifted { SiftedIn self.old self.new cell start result (λ lt l. Risen lt self.old.count start result l) }
     {
+        // Read once: the loop keeps the tables in registers.
         let width = self.width;
         let k1 = &mut *self.k1;
         let k2 = &mut *self.k2;
@@ -122,6 +128,7 @@ impl<'a> Queue<'a> {
         ensures keys_stay { KeysStay self.old self.new }
         ensures sifted { SiftedIn self.old self.new cell start result (λ lt l. Ordered lt self.old.count l) }
     {
+        // Read once: the loop keeps the tables in registers.
         let width = self.width;
         let count = self.count;
         let k1 = &mut *self.k1;

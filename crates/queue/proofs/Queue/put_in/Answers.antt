@@ -16,5 +16,6 @@ sift_up-i-requires-clause-loose c = (put_in_loose c.requires.heap c.requires.cel
 pub returns-clause-changed : goal.returns-clause-changed
 returns-clause-changed c = let settled = reshaped c.sift_up-i.ensures.sifted (risen_last (before_order _ _ _) refl c.sift_up-i.ensures.sifted.shape) in
     let stay = c.sift_up-i.ensures.keys_stay in
-    rw (stay.count, stay.first, stay.second) (stood c.requires.heap c.requires.cell_in_bounds (λ z. absurd (never refl z)) settled refl (put_in_members c.requires.heap c.requires.cell_in_bounds c.requires.not_queued)
+    let members = put_in_members c.requires.heap c.requires.cell_in_bounds c.requires.not_queued in
+    rw (stay.count, stay.first, stay.second) (stood c.requires.heap c.requires.cell_in_bounds (λ z. absurd (never refl z)) settled refl members
     c.stand.ensures.place_after c.stand.ensures.list_after)

@@ -7,7 +7,8 @@ settle-j-requires-clause-loose c = (put_under_loose c.requires.heap c.requires.c
 
 pub returns-then-j-i-clause-changed : goal.returns-then-j-i-clause-changed
 returns-then-j-i-clause-changed c = let stay = c.settle-j.ensures.keys_stay in
-    rw (stay.count, stay.first, stay.second) (put_under_done c.requires.heap c.requires.cell_in_bounds c.requires.queued c.from-i.ensures _ _ c.settle-j.ensures.sifted c.stand.ensures.place_after c.stand.ensures.list_after).0
+    rw (stay.count, stay.first, stay.second) (put_under_done c.requires.heap c.requires.cell_in_bounds c.requires.queued c.from-i.ensures _ _ c.settle-j.ensures.sifted
+    c.stand.ensures.place_after c.stand.ensures.list_after).0
 
 pub returns-else-j-i-clause-changed : goal.returns-else-j-i-clause-changed
 returns-else-j-i-clause-changed c =

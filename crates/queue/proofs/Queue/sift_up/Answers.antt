@@ -18,9 +18,8 @@ of-upper-requires c = let l = c.loop-i.invariant in
 pub returns-then-not-comes_before-clause-sifted : goal.returns-then-not-comes_before-clause-sifted
 returns-then-not-comes_before-clause-sifted c = let l = c.loop-i.invariant in
     let u = above c.loop-i-test.true in
-    reshaped l (risen (before_order _ _ _) l.shape (stay_under (before_order _ _ _) l.shape.loose u
-    ((let u = above c.loop-i-test.true in first_before c.loop-i.invariant.held (above_inside u c.loop-i.invariant.held.inside) (λ e. omega (arith, u.low)) c.from.ensures
-    c.of-own.ensures c.of-upper.ensures c.comes_before.ensures) ∙ c.if-not-comes_before.true)))
+    let own_first = first_before l.held (above_inside u l.held.inside) (λ e. omega (arith, u.low)) c.from.ensures c.of-own.ensures c.of-upper.ensures c.comes_before.ensures in
+    reshaped l (risen (before_order _ _ _) l.shape (stay_under (before_order _ _ _) l.shape.loose u (own_first ∙ c.if-not-comes_before.true)))
 
 pub stand-requires : goal.stand-requires
 stand-requires c = let l = c.loop-i.invariant in
@@ -32,8 +31,7 @@ loop-i-preserved c = let l = c.loop-i.invariant in
     let u = above c.loop-i-test.true in
     let b = above_inside u l.held.inside in
     let s = passed l.held b (λ e. omega (arith, u.low)) (c.of-upper.ensures.cell ∙ c.from.ensures) c.stand.ensures.place_after c.stand.ensures.list_after in
-    let moves = (let u = above c.loop-i-test.true in first_before c.loop-i.invariant.held (above_inside u c.loop-i.invariant.held.inside) (λ e. omega (arith, u.low)) c.from.ensures
-    c.of-own.ensures c.of-upper.ensures c.comes_before.ensures) ∙ c.if-not-comes_before.false in
+    let moves = first_before l.held b (λ e. omega (arith, u.low)) c.from.ensures c.of-own.ensures c.of-upper.ensures c.comes_before.ensures ∙ c.if-not-comes_before.false in
     record {
       held = s.0;
       membership = s.1 ∙ l.membership;
