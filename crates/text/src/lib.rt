@@ -3,7 +3,7 @@
 
 ghost use Rattle.std.specs.Prelude.{◌≡◌, ◌+◌, ◌≤◌, length};
 ghost use Rattle.text.specs.Text.{decimal};
-ghost use Rattle.text.specs.Put.{Put};
+ghost use Rattle.text.specs.Put.{PutIn};
 
 use itoa;
 
@@ -18,7 +18,7 @@ impl<'a> Text<'a> {
     // Puts the bytes of a word behind the text.
     pub fn put_word(&mut self, word: &[u8])
         requires { self.old.used + length word.now ≤ length self.old.room.now }
-        ensures put { Put self.old.room.now self.old.used word.now self.new.used self.new.room.now }
+        ensures put { PutIn self.old word.now self.new }
         ensures same_room { self.new.room.ghost_name ≡ self.old.room.ghost_name }
     {
         let end = self.used + word.len();
@@ -29,7 +29,7 @@ impl<'a> Text<'a> {
     // Puts a number in decimal behind the text.
     pub fn put_decimal(&mut self, n: u64)
         requires { self.old.used + length (decimal n) ≤ length self.old.room.now }
-        ensures put { Put self.old.room.now self.old.used (decimal n) self.new.used self.new.room.now }
+        ensures put { PutIn self.old (decimal n) self.new }
         ensures same_room { self.new.room.ghost_name ≡ self.old.room.ghost_name }
     {
         self.put_word(itoa::Buffer::new().format(n).as_bytes());
