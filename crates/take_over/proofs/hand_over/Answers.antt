@@ -3,4 +3,4 @@ use Rattle.take_over.proofs.TakeOverLaws.{hand_holds}
 use Rattle.take_over.proofs.hand_over.Goals as goal
 
 pub returns-clause-holds : goal.returns-clause-holds
-returns-clause-holds c = hand_holds c.requires c.aim_of-a.ensures c.found_anew.ensures.became
+returns-clause-holds c = hand_holds c.requires c.aim_of-a.ensures c.found_anew-count.ensures.became

@@ -3,34 +3,29 @@ use mathlib.Core.Path.{refl}
 use Rattle.take_over.proofs.TakeOverLaws.{handing, taken_late, taken_same, taken_far, taken_new}
 use Rattle.take_over.proofs.take_over.Goals as goal
 
-pub returns-then-s-ge-RENEWAL : goal.returns-then-s-ge-RENEWAL
-returns-then-s-ge-RENEWAL c = taken_late c.requires c.if-s-ge-RENEWAL.true c.begin.ensures
+pub returns-then-s-ge-RENEWAL-clause-taken : goal.returns-then-s-ge-RENEWAL-clause-taken
+returns-then-s-ge-RENEWAL-clause-taken c = taken_late c.requires c.if-s-ge-RENEWAL.true c.begin.ensures.opened
 
-pub returns-then-h-s : goal.returns-then-h-s
-returns-then-h-s c = taken_same
+pub returns-then-s-clause-taken : goal.returns-then-s-clause-taken
+returns-then-s-clause-taken c = taken_same c.requires c.if-s-ge-RENEWAL.false c.if-s.true c.target_taken-t.ensures refl
+
+pub returns-then-ahead-s-clause-taken : goal.returns-then-ahead-s-clause-taken
+returns-then-ahead-s-clause-taken c = taken_far
     c.requires
     c.if-s-ge-RENEWAL.false
-    c.if-h-s.true
-    c.target_taken-t.ensures
-    refl
-
-pub returns-then-rhs-h : goal.returns-then-rhs-h
-returns-then-rhs-h c = taken_far
-    c.requires
-    c.if-s-ge-RENEWAL.false
-    c.if-h-s.false
-    c.if-rhs-h.true
-    c.begin-then-rhs-h.ensures
+    c.if-s.false
+    c.if-ahead-s.true
+    c.begin-then-ahead-s.ensures.opened
 
 pub hand_over-requires : goal.hand_over-requires
 hand_over-requires c = handing c.requires c.target_taken-t.ensures
 
-pub returns : goal.returns
-returns c = taken_new
+pub returns-clause-taken : goal.returns-clause-taken
+returns-clause-taken c = taken_new
     c.requires
     c.if-s-ge-RENEWAL.false
-    c.if-h-s.false
-    c.if-rhs-h.false
+    c.if-s.false
+    c.if-ahead-s.false
     c.target_taken-t.ensures
     c.hand_over.ensures.holds
     c.hand_over.ensures.entry_kept
