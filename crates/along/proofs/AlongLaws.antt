@@ -1,5 +1,6 @@
 -- What the rules and the answer of `along` settle, and how its costs are put one behind the other.
-use mathlib.Core.Path.{◌≡◌, refl, sym, ap, ◌∙◌}
+use mathlib.Core.Path.{◌≡◌, refl, sym, ap, subst, ◌∙◌}
+use mathlib.Core.Bool.{true, false, false≢true}
 use mathlib.Core.List.{List}
 use Prim.Native.Nat.{ℕ, zero, suc, ◌+◌, ◌*◌, ◌≤◌, ◌<◌}
 use native.Mathlib.Numerals.{add-one}
@@ -8,27 +9,39 @@ use lib.ListN.{length, get_or, drop, set, length-set}
 use lib.Seq.{get_or-set_same, get_or-set_other, drop-set-lt}
 use borrow.Author.Count.{below_more}
 use Rattle.decide.proofs.RuledLaws.{passed_one, ruled_one, granted, passed_zero, onward}
-use Rattle.plan.specs.Costs.{Plan, plan_of, byte, IsCost}
+use Rattle.std.specs.Prelude.{Option, Some, None, Result, Ok, Err, is_some}
+use Rattle.refusal.specs.declared.Refusal.{Refusal}
+use Rattle.refusal.specs.Numbers.{number_of}
+use Rattle.refusal.proofs.NumberLaws.{refusal_of, refusal_is, numbered}
+use Rattle.plan.specs.Costs.{Plan, plan_of, byte, IsCost, Obeys}
 use Rattle.plan.specs.Toward.{Leads, Neighbours, Toward, leading, nowhere}
 use Rattle.plan.proofs.MoveLaws.{cost_of}
-use Rattle.along.specs.declared.Running.{Running}
-use Rattle.along.specs.declared.Running.TheVariants.{Costs, Refused}
-use Rattle.along.specs.Along.{RunningTold, running_told, told_running, cell_at, Onward, StepByte, AlongRules, Costable}
+use Rattle.along.specs.Along.{RunningTold, running_told, told_running, cell_at, Onward, StepByte, AlongRules, Costable, Costed}
 
 -- ---- one move
 
--- Of neighbours, the direction told leads from the one to the other.
-toward_leads : {width height a b d : ℕ} → Toward width height a b d → Neighbours width height a b → Leads width height a d b
-toward_leads (leading l) n = l
-toward_leads (nowhere m) n = absurd (m n)
+-- Of neighbours, a direction is told that leads from the one to the other.
+pub toward_leads : {width height a b : ℕ} (r : Option ℕ) → Toward width height a b r → Neighbours width height a b → (d : ℕ) × (r ≡ Some d) × Leads width height a d b
+toward_leads (Some d) (leading l) n = (d, refl, l)
+toward_leads None (nowhere m) n = absurd (m n)
 
--- So it is for the i-th listed cell and the next.
-module _ {width height d : ℕ} (cells : List ℕ) (i : ℕ) (t : Toward width height (cell_at cells i) (cell_at cells (i + 1)) d) where
-  next_told : Toward width height (cell_at cells i) (cell_at cells (suc i)) d
-  next_told = rw add-one at t
+-- A direction told leads there.
+pub told_leads : {width height a b d : ℕ} {r : Option ℕ} → r ≡ Some d → Toward width height a b r → Leads width height a d b
+told_leads {width} {height} {a} {b} {d} e t = at (subst (Toward width height a b) e t)
+  where
+    at : Toward width height a b (Some d) → Leads width height a d b
+    at (leading l) = l
 
-  pub step_leads : Neighbours width height (cell_at cells i) (cell_at cells (suc i)) → Leads width height (cell_at cells i) d (cell_at cells (suc i))
-  step_leads = toward_leads next_told
+-- One is told exactly of neighbours.
+pub told_so : {width height a b : ℕ} (r : Option ℕ) → Toward width height a b r → is_some r ≡ true → Neighbours width height a b
+told_so (Some d) (leading l) e = record { direction = d; leads = l }
+told_so None t e = absurd (false≢true e)
+
+pub told_not : {width height a b : ℕ} (r : Option ℕ) → Toward width height a b r → is_some r ≡ false → Neighbours width height a b → ⊥
+told_not (Some d) t e = absurd (false≢true (sym e))
+told_not None (nowhere m) e = m
+
+-- ---- the costs of the moves
 
 -- The byte of each move of the list's way is a cost.
 pub open_cost : {width height room : ℕ} {plan cells : List ℕ} → Costable width height plan cells room → (i d : ℕ) → suc i < length cells
@@ -81,16 +94,21 @@ module _ {p : Plan} {cells : List ℕ} where
 -- ---- the answer
 
 -- The answer as the code returns it.
-abbrev pub ran : ℕ → ℕ → Running
-ran zero n = Costs n
-ran (suc k) n = Refused (suc k)
+abbrev pub ran : ℕ → ℕ → Result ℕ Refusal
+ran zero n = Ok n
+ran (suc k) n = Err (refusal_of (suc k))
+
+-- What is told of a refusal.
+told_refused : (k n : ℕ) → 0 < k → ◌≡◌ {A = RunningTold} (record { refusal = k; costs = 0 }) (told_running k n)
+told_refused zero n l = absurd (omega arith)
+told_refused (suc k) n l = refl
 
 -- An answer told by its number is the number's: no list without cells gets number 0.
-pub ran_is : (r : Running) (k n : ℕ) → (k ≡ 0 → 1 ≤ n) → running_told r ≡ told_running k n → r ≡ ran k n
-ran_is (Costs m) zero n l e = ap Costs (ap (λ (x : RunningTold). x.costs) e)
-ran_is (Costs m) (suc k) n l e = absurd (omega (arith, ap (λ (x : RunningTold). x.refusal) e))
-ran_is (Refused j) zero n l e = absurd (omega (arith, l refl, ap (λ (x : RunningTold). x.costs) e))
-ran_is (Refused j) (suc k) n l e = ap Refused (ap (λ (x : RunningTold). x.refusal) e)
+pub ran_is : (r : Result ℕ Refusal) (k n : ℕ) → (k ≡ 0 → 1 ≤ n) → running_told r ≡ told_running k n → r ≡ ran k n
+ran_is (Ok m) zero n l e = ap Ok (ap (λ (x : RunningTold). x.costs) e)
+ran_is (Ok m) (suc k) n l e = absurd (omega (arith, ap (λ (x : RunningTold). x.refusal) e))
+ran_is (Err r) zero n l e = absurd (omega (arith, l refl, ap (λ (x : RunningTold). x.costs) e))
+ran_is (Err r) (suc k) n l e = ap Err (sym (refusal_is r) ∙ ap (λ (x : RunningTold). refusal_of x.refusal) e)
 
 -- ---- the rules
 
@@ -121,3 +139,20 @@ module _ {width height : ℕ} (plan cells : List ℕ) {room k : ℕ} (rules : Al
       let W = C.way in
       passed_zero
       (onward C.roomy (onward (C.bytes, C.all_open) (onward (C.edges, W.joined) (onward W.listed (onward (W.sized, W.some, W.few) (onward W.size rules))))))
+
+  -- Then the plan obeys its rules.
+  pub costable_obeys : k ≡ 0 → Obeys (plan_of width height plan)
+  costable_obeys e = let C = along_granted e in record { size = C.way.size; sized = C.way.sized; bytes = C.bytes; edges = C.edges }
+
+-- Refused, and nothing is written.
+pub costed_refused : (width height : ℕ) (plan cells costs : List ℕ) (e : Refusal) → AlongRules width height plan cells (length costs) (number_of e)
+    → Costed width height plan cells costs (Err e) costs
+costed_refused width height plan cells costs e rules = record {
+  number = number_of e;
+  rules = rules;
+  answer = told_refused (number_of e) (length cells) (numbered e);
+  refused = λ n. refl;
+  done = λ z. absurd (omega (arith, numbered e, z));
+  long = refl;
+  rest = refl;
+}

@@ -1,3 +1,4 @@
+pub mod PairLaws
 pub mod AlongLaws
 pub mod Theorems
 pub mod CaseLaws

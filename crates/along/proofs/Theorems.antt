@@ -9,33 +9,34 @@ use lib.ListN.{length, get_or, take, drop, take-append-drop}
 use lib.Seq.{take-suc, length-take-le, ext_get_or, get_or-take}
 use Rattle.method.specs.Walk.{Chain, stay}
 use Rattle.method.proofs.Answers.{chain_more}
+use Rattle.std.specs.Prelude.{Result, Ok, Err}
+use Rattle.refusal.specs.declared.Refusal.{Refusal}
+use Rattle.refusal.proofs.NumberLaws.{refusal_of}
 use Rattle.plan.specs.Costs.{Plan, plan_of}
 use Rattle.plan.specs.Grid.{graph_of}
 use Rattle.plan.proofs.TowardLaws.{leads_open}
-use Rattle.along.specs.declared.Running.{Running}
-use Rattle.along.specs.declared.Running.TheVariants.{Costs, Refused}
 use Rattle.along.specs.Along.{RunningTold, running_told, told_running, cell_at, Joined, Runs, AlongRules, Costable, Costed}
 use Rattle.along.proofs.AlongLaws.{open_cost, ran, ran_is, one_number, along_granted, along_passes}
 
 -- ---- the answer
 
-module _ {width height : ℕ} {plan cells costs costs' : List ℕ} {r : Running} (P : Costed width height plan cells costs r costs') where
+module _ {width height : ℕ} {plan cells costs costs' : List ℕ} {r : Result ℕ Refusal} (P : Costed width height plan cells costs r costs') where
   -- The answer as the code returns it.
   pub along_answer : r ≡ ran P.number (length cells)
   along_answer = ran_is r P.number (length cells) (λ z. (along_granted plan cells P.rules z).way.some) P.answer
 
   -- Refused by the number of the first rule broken, and nothing has changed ..
-  pub along_refused : {k : ℕ} → AlongRules width height plan cells (length costs) k → k ≢ 0 → (r ≡ Refused k) × (costs' ≡ costs)
+  pub along_refused : {k : ℕ} → AlongRules width height plan cells (length costs) k → k ≢ 0 → (r ≡ Err (refusal_of k)) × (costs' ≡ costs)
   along_refused {k} rules n =
       let e = one_number plan cells P.rules rules in
       (along_answer ∙ by k e n, P.refused (λ z. n (sym e ∙ z)))
     where
-      by : (k : ℕ) → P.number ≡ k → k ≢ 0 → ran P.number (length cells) ≡ Refused k
+      by : (k : ℕ) → P.number ≡ k → k ≢ 0 → ran P.number (length cells) ≡ Err (refusal_of k)
       by zero e n = absurd (n refl)
       by (suc k) e n = ap (λ x. ran x (length cells)) e
 
   -- .. and where no rule is broken, the running costs are written.
-  pub along_done : Costable width height plan cells (length costs) → (r ≡ Costs (length cells)) × Runs (plan_of width height plan) cells costs'
+  pub along_done : Costable width height plan cells (length costs) → (r ≡ Ok (length cells)) × Runs (plan_of width height plan) cells costs'
   along_done C =
       let z = along_passes plan cells P.rules C in
       (along_answer ∙ ap (λ x. ran x (length cells)) z, P.done z)
@@ -73,7 +74,7 @@ same_list n a b l e h rest = sym (take-append-drop n a) ∙ ap (λ (x : List ℕ
         (λ i m. let k : i < n = omega (arith, short) in get_or-take n a i 0 k ∙ h i k ∙ sym (get_or-take n b i 0 k))
 
 -- Two results that the statement allows are equal, every cost and what lies behind them too.
-pub one_along : {width height : ℕ} {plan cells costs a b : List ℕ} {r s : Running}
+pub one_along : {width height : ℕ} {plan cells costs a b : List ℕ} {r s : Result ℕ Refusal}
     → Costed width height plan cells costs r a → Costed width height plan cells costs s b → (r ≡ s) × (a ≡ b)
 one_along {plan = plan} {cells = cells} {a = a} {b = b} P Q =
     (along_answer P ∙ ap (λ x. ran x (length cells)) e ∙ sym (along_answer Q), at (ℕ_discrete P.number 0))
@@ -109,8 +110,8 @@ chain_to {width} {height} {room} {plan} {cells} {costs} C R (suc i) l =
     (subst (Chain G (cell_at cells 0) (take (suc i) cells ++ (b ∷ [])) b) (sym (R.next i d l n.leads)) w)
 
 -- The cost written at each listed cell is that of the chain of open moves up to it.
-pub along_costs : {width height n : ℕ} {plan cells costs costs' : List ℕ} {r : Running} → Costed width height plan cells costs r costs' → r ≡ Costs n → (i : ℕ) → i < length cells
+pub along_costs : {width height n : ℕ} {plan cells costs costs' : List ℕ} {r : Result ℕ Refusal} → Costed width height plan cells costs r costs' → r ≡ Ok n → (i : ℕ) → i < length cells
     → Chain (graph_of (plan_of width height plan)) (cell_at cells 0) (take (suc i) cells) (cell_at cells i) (get_or costs' i 0)
 along_costs {plan = plan} {cells = cells} P e =
-    let C = along_granted plan cells ((along_number P 0).0 (ap (λ (x : Running). (running_told x).refusal) e)) refl in
+    let C = along_granted plan cells ((along_number P 0).0 (ap (λ (x : Result ℕ Refusal). (running_told x).refusal) e)) refl in
     chain_to C (along_done P C).1

@@ -1,11 +1,11 @@
 -- "For a given list of 1 to N cells it gives the running cost at each": what is refused, and what is written.
-use Rattle.std.specs.Prelude.{◌≡◌, ◌≢◌, List, ℕ, zero, suc, ◌+◌, ◌*◌, ◌≤◌, ◌<◌, length, get_or, drop}
+use Rattle.std.specs.Prelude.{◌≡◌, ◌≢◌, List, ℕ, zero, suc, ◌+◌, ◌*◌, ◌≤◌, ◌<◌, length, get_or, drop, Result, Ok, Err}
 use Rattle.decide.specs.Ruled.{Ruled, Passed}
+use Rattle.refusal.specs.declared.Refusal.{Refusal}
+use Rattle.refusal.specs.Numbers.{number_of}
 use Rattle.plan.specs.Cells.{Size}
 use Rattle.plan.specs.Costs.{Plan, plan_of, shut, byte, Bytes, Edges}
 use Rattle.plan.specs.Toward.{Leads, Neighbours}
-use Rattle.along.specs.declared.Running.{Running}
-use Rattle.along.specs.declared.Running.TheVariants.{Costs, Refused}
 
 -- ---- the answer
 
@@ -14,9 +14,9 @@ pub record RunningTold : Type 0 where
   pub refusal : ℕ
   pub costs : ℕ
 
-abbrev pub running_told : Running → RunningTold
-running_told (Costs n) = record { refusal = 0; costs = n }
-running_told (Refused k) = record { refusal = k; costs = 0 }
+abbrev pub running_told : Result ℕ Refusal → RunningTold
+running_told (Ok n) = record { refusal = 0; costs = n }
+running_told (Err refusal) = record { refusal = number_of refusal; costs = 0 }
 
 -- What is told of a list of so many cells, by the number of the first rule broken; 0 is none.
 abbrev pub told_running : ℕ → ℕ → RunningTold
@@ -33,9 +33,13 @@ cell_at cells i = get_or cells i 0
 abbrev pub Listed : ℕ → List ℕ → Type 0
 Listed n cells = (i : ℕ) → i < length cells → cell_at cells i < n
 
--- Each listed pair are neighbours.
+-- Each listed pair are neighbours on a plan of a size ..
+abbrev pub AllNeighbours : ℕ → ℕ → List ℕ → Type 0
+AllNeighbours width height cells = (i : ℕ) → suc i < length cells → Neighbours width height (cell_at cells i) (cell_at cells (suc i))
+
+-- .. and so on a plan.
 abbrev pub Joined : Plan → List ℕ → Type 0
-Joined p cells = (i : ℕ) → suc i < length cells → Neighbours p.width p.height (cell_at cells i) (cell_at cells (suc i))
+Joined p cells = AllNeighbours p.width p.height cells
 
 -- The move in direction d leads from the i-th listed cell to the next.
 abbrev pub Onward : Plan → List ℕ → ℕ → ℕ → Type 0
@@ -86,7 +90,7 @@ pub record Costable (width height : ℕ) (plan cells : List ℕ) (room : ℕ) : 
 -- ---- the promise
 
 -- The running costs stand first, and what lies behind them keeps its contents; a refusal changes nothing.
-pub record Costed (width height : ℕ) (plan cells costs : List ℕ) (r : Running) (costs' : List ℕ) : Type 0 where
+pub record Costed (width height : ℕ) (plan cells costs : List ℕ) (r : Result ℕ Refusal) (costs' : List ℕ) : Type 0 where
   pub number : ℕ
   pub rules : AlongRules width height plan cells (length costs) number
   pub answer : running_told r ≡ told_running number (length cells)
