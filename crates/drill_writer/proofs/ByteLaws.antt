@@ -30,15 +30,14 @@ low_pair a b l = omega arith
 high_pair : (a b : ℕ) → a < 65536 → (a + 65536 * b) / 65536 ≡ b
 high_pair a b l = omega arith
 
--- A trailer byte by byte, where the offset has two bytes and two zeros.
-pub trailer_of_bytes : (width height hunter target count : ℕ) {a b c d e f g h : ℕ} → 4 * (height * width) < 65536
-    → a ≡ hunter % 256 → b ≡ hunter / 256 % 256 → c ≡ target % 256 → d ≡ target / 256 % 256
-    → e ≡ count % 256 → f ≡ count / 256 % 256 → g ≡ 4 * (height * width) % 256 → h ≡ 4 * (height * width) / 256 % 256
-    → width ∷ height ∷ a ∷ b ∷ c ∷ d ∷ e ∷ f ∷ g ∷ h ∷ 0 ∷ 0 ∷ [] ≡ trailer_bytes (trailer_for width height hunter target count)
-trailer_of_bytes width height hunter target count l a b c d e f g h =
+-- A trailer by its bytes, where the offset has two bytes and two zeros.
+pub trailer_of_bytes : (width height hunter target count : ℕ) {a b c d : List ℕ} → 4 * (height * width) < 65536 → a ≡ in_two hunter → b ≡ in_two target → c ≡ in_two count → d ≡ in_two (4 * (height * width))
+    → width ∷ height ∷ get_or a 0 0 ∷ get_or a 1 0 ∷ get_or b 0 0 ∷ get_or b 1 0 ∷ get_or c 0 0 ∷ get_or c 1 0 ∷ get_or d 0 0 ∷ get_or d 1 0 ∷ 0 ∷ 0 ∷ []
+    ≡ trailer_bytes (trailer_for width height hunter target count)
+trailer_of_bytes width height hunter target count l a b c d =
     let low_pair_is : 4 * (height * width) % 65536 ≡ 4 * (height * width) = omega arith in
     let high_pair_is : 4 * (height * width) / 65536 ≡ 0 = omega arith in
-    rw (a, b, c, d, e, f, g, h, low_pair_is, high_pair_is)
+    rw (a, b, c, d, low_pair_is, high_pair_is)
 
 module _ (file : List ℕ) where
   -- From a place on: the byte there, and what follows it ..

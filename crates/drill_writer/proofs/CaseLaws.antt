@@ -9,6 +9,8 @@ use native.Mathlib.Decide.{ℕ_discrete, dec_lt}
 use lib.Dec.{ltb}
 use lib.ListN.{length, get_or, drop}
 use borrow.Author.Tests.{ltb-true}
+use Rattle.std.specs.Prelude.{Result, Ok}
+use Rattle.refusal.specs.declared.Refusal.{Refusal}
 use Rattle.decide.specs.Choose.{choose}
 use Rattle.plan.specs.Directions.{shifts}
 use Rattle.plan.specs.Cells.{stays}
@@ -16,8 +18,6 @@ use Rattle.plan.specs.Costs.{is_cost}
 use Rattle.drill_file.specs.File.{action_of, action_at, actions_from, well_formed, is_size, form_number}
 use Rattle.drill_file.specs.Numbers.{below, is_byte, bytes_hold, edge_holds, edges_hold, open_number, file_number}
 use Rattle.drill_file.specs.Whole.{whole_plan, whole_actions, drill_of_one}
-use Rattle.drill_writer.specs.declared.Written.{Written}
-use Rattle.drill_writer.specs.declared.Written.TheVariants.{Bytes}
 use Rattle.drill_writer.specs.Promise.{Writes}
 use Rattle.drill_writer.proofs.Theorems.{rewrites}
 
@@ -50,9 +50,9 @@ unfolding choose shifts stays is_cost action_of action_at actions_from well_form
 taken = (refl, refl, refl, refl)
 
 -- The whole drill's parts are written as document 01's 79 bytes ..
-pub whole_drill : {room room' : List ℕ} {r : Written} → Writes 3 1 0 2 whole_plan whole_actions room r room' → 79 ≤ length room → (r ≡ Bytes 79) × (room' ≡ drill_of_one ++ drop 79 room)
+pub whole_drill : {room room' : List ℕ} {r : Result ℕ Refusal} → Writes 3 1 0 2 whole_plan whole_actions room r room' → 79 ≤ length room → (r ≡ Ok 79) × (room' ≡ drill_of_one ++ drop 79 room)
 whole_drill P l = rewrites drill_of_one (octets drill_of_one taken.2) taken.0 l P
 
 -- .. and no actions at all on 1 by 1 as 16.
-pub least_drill_written : {room room' : List ℕ} {r : Written} → Writes 1 1 0 0 (255 ∷ 255 ∷ 255 ∷ 255 ∷ []) [] room r room' → 16 ≤ length room → (r ≡ Bytes 16) × (room' ≡ least_drill ++ drop 16 room)
+pub least_drill_written : {room room' : List ℕ} {r : Result ℕ Refusal} → Writes 1 1 0 0 (255 ∷ 255 ∷ 255 ∷ 255 ∷ []) [] room r room' → 16 ≤ length room → (r ≡ Ok 16) × (room' ≡ least_drill ++ drop 16 room)
 least_drill_written P l = rewrites least_drill (octets least_drill taken.3) taken.1 l P

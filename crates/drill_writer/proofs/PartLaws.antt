@@ -7,6 +7,7 @@ use native.Mathlib.Omega.{arith}
 use native.Mathlib.Decide.{dec_le}
 use lib.ListN.{length, get_or, take, drop, length-append, take-append-drop, get_or-append}
 use lib.Seq.{get_or-append-add, take-add}
+use Rattle.std.specs.Prelude.{Option}
 use Rattle.decide.proofs.ChooseLaws.{choose_yes}
 use Rattle.drill_file.specs.declared.Action.{Action}
 use Rattle.drill_file.specs.File.{two, action_of, action_at, actions_from}
@@ -50,7 +51,7 @@ module _ (a b c : List ℕ) where
   actions_there (suc n) at l =
       let e = action_there at (omega arith) in
       let f = ap (λ k. actions_from (a ++ b ++ c) k n) (add_assoc (length a) at 5) ∙ actions_there n (at + 5) (omega arith) in
-      ap (λ (x : Action). x ∷ actions_from (a ++ b ++ c) (length a + at + 5) n) e ∙ ap (λ (x : List Action). action_at b at ∷ x) f
+      ap (λ (x : Option Action). x ∷ actions_from (a ++ b ++ c) (length a + at + 5) n) e ∙ ap (λ (x : List (Option Action)). action_at b at ∷ x) f
 
 -- A file cut into its three parts.
 pub cut : (file : List ℕ) (p m : ℕ) → take p file ++ take m (drop p file) ++ drop (p + m) file ≡ file

@@ -9,6 +9,9 @@ use native.Mathlib.Omega.{arith}
 use native.Mathlib.Decide.{ℕ_discrete, dec_le, dec_lt}
 use lib.ListN.{length, get_or, take, drop, length-drop, drop_of_length-le}
 use lib.Seq.{length-take-le, take_at}
+use Rattle.std.specs.Prelude.{Option, Result, Ok}
+use Rattle.refusal.specs.declared.Refusal.{Refusal}
+use Rattle.refusal.specs.Numbers.{number_in}
 use Rattle.decide.proofs.ChooseLaws.{choose_yes}
 use Rattle.decide.proofs.RuledLaws.{passed_zero, onward}
 use Rattle.plan.specs.Costs.{plan_of}
@@ -19,55 +22,49 @@ use Rattle.drill_file.specs.File.{trailer_at, trailer_of, trailer_in, cells, act
 use Rattle.drill_file.specs.Numbers.{edges_hold, bytes_hold, open_number, plan_in, file_number}
 use Rattle.drill_file.proofs.FileLaws.{chosen, form_of}
 use Rattle.drill_file.proofs.NumberLaws.{ruled_number, Formed, formed, file_number_is, file_formed}
-use Rattle.drill_writer.specs.declared.Written.{Written}
-use Rattle.drill_writer.specs.declared.Written.TheVariants.{Bytes, Refused}
 use Rattle.drill_writer.specs.Drill.{Drill, drill_of, action_bytes_in, actions_bytes, actions_in, trailer_bytes, trailer_for, file_of, drill_given, bytes_for}
 use Rattle.drill_writer.specs.Promise.{WriteTold, written_told, told_number, Fit, ActionRules, WriteRules, Writable, Writes}
 use Rattle.drill_writer.proofs.PartLaws.{actions_there, cut}
 use Rattle.drill_writer.proofs.ActionLaws.{cut_actions, five_each, length_actions}
 use Rattle.drill_writer.proofs.TrailerLaws.{Small, same_trailer, trailer_back, cut_trailer}
-use Rattle.drill_writer.proofs.WriteLaws.{length_written, answered, answer_is, write_number, write_granted, write_passes}
+use Rattle.drill_writer.proofs.WriteLaws.{length_written, refusal_told, same_answer, write_number, write_granted, write_passes}
 
 -- ---- one result
 
-module _ {width height hunter target : ℕ} {plan actions file file' : List ℕ} {r : Written} (P : Writes width height hunter target plan actions file r file') where
-  -- The answer as the code returns it.
-  pub write_answer : r ≡ answered P.number (length (bytes_for width height hunter target plan actions))
-  write_answer = answer_is r P.number _ (omega (arith, length_written width height hunter target plan actions)) P.answer
-
-  -- Refused by the number of the first rule broken, and nothing has changed ..
-  pub write_refused : {k : ℕ} → WriteRules width height hunter target plan actions (length file) k → k ≢ 0 → (r ≡ Refused k) × (file' ≡ file)
-  write_refused {k} rules n =
-      let e = write_number plan actions P.rules rules in
-      (write_answer ∙ by k e n, P.refused (λ z. n (sym e ∙ z)))
-    where
-      by : (k : ℕ) → P.number ≡ k → k ≢ 0 → answered P.number (length (bytes_for width height hunter target plan actions)) ≡ Refused k
-      by zero e n = absurd (n refl)
-      by (suc k) e n = ap (λ x. answered x (length (bytes_for width height hunter target plan actions))) e
-
-  -- .. and where no rule is broken, written.
-  pub write_done : Writable width height hunter target plan actions (length file)
-      → (r ≡ Bytes (length (bytes_for width height hunter target plan actions))) × (file' ≡ bytes_for width height hunter target plan actions ++ drop (length (bytes_for width height hunter target plan actions)) file)
-  write_done W =
-      let z = write_passes plan actions P.rules W in
-      (write_answer ∙ ap (λ x. answered x (length (bytes_for width height hunter target plan actions))) z, P.done z)
-
-  -- The number told is k exactly if k is the number of the first rule broken, and 0 exactly if none is.
-  pub write_exactly : (k : ℕ) → ((written_told r).refusal ≡ k) ↔ WriteRules width height hunter target plan actions (length file) k
-  write_exactly k = (λ e. subst (WriteRules width height hunter target plan actions (length file)) (sym told ∙ e) P.rules, λ rules. told ∙ write_number plan actions P.rules rules)
+module _ {width height hunter target : ℕ} {plan actions file file' : List ℕ} {r : Result ℕ Refusal} (P : Writes width height hunter target plan actions file r file') where
+  -- The number in the answer is that of the first rule broken.
+  number_told : number_in r ≡ P.number
+  number_told = sym (refusal_told r) ∙ ap (λ (x : WriteTold). x.refusal) P.answer ∙ by P.number (length (bytes_for width height hunter target plan actions))
     where
       by : (k n : ℕ) → (told_number k n).refusal ≡ k
       by zero n = refl
       by (suc k) n = refl
 
-      told : (written_told r).refusal ≡ P.number
-      told = ap (λ (x : WriteTold). x.refusal) P.answer ∙ by P.number (length (bytes_for width height hunter target plan actions))
+  -- Refused by the number of the first rule broken, and nothing has changed ..
+  pub write_refused : {k : ℕ} → WriteRules width height hunter target plan actions (length file) k → k ≢ 0 → (number_in r ≡ k) × (file' ≡ file)
+  write_refused rules n =
+      let e = write_number plan actions P.rules rules in
+      (number_told ∙ e, P.refused (λ z. n (sym e ∙ z)))
+
+  -- .. and where no rule is broken, written.
+  pub write_done : Writable width height hunter target plan actions (length file)
+      → (r ≡ Ok (length (bytes_for width height hunter target plan actions))) × (file' ≡ bytes_for width height hunter target plan actions ++ drop (length (bytes_for width height hunter target plan actions)) file)
+  write_done W =
+      let z = write_passes plan actions P.rules W in
+      (same_answer r (Ok _) (P.answer ∙ ap (λ k. told_number k (length (bytes_for width height hunter target plan actions))) z), P.done z)
+
+  -- The number told is k exactly if k is the number of the first rule broken, and 0 exactly if none is.
+  pub write_exactly : (k : ℕ) → ((written_told r).refusal ≡ k) ↔ WriteRules width height hunter target plan actions (length file) k
+  write_exactly k = (
+    λ e. subst (WriteRules width height hunter target plan actions (length file)) (sym number_told ∙ sym (refusal_told r) ∙ e) P.rules,
+    λ rules. refusal_told r ∙ number_told ∙ write_number plan actions P.rules rules,
+  )
 
 -- Two results that the statement allows are equal, every byte of the room too.
-pub one_writing : {width height hunter target : ℕ} {plan actions file a b : List ℕ} {r s : Written}
+pub one_writing : {width height hunter target : ℕ} {plan actions file a b : List ℕ} {r s : Result ℕ Refusal}
     → Writes width height hunter target plan actions file r a → Writes width height hunter target plan actions file s b → (r ≡ s) × (a ≡ b)
-one_writing {width} {height} {hunter} {target} {plan} {actions} {file} {a} {b} P Q =
-    (write_answer P ∙ ap (λ x. answered x (length (bytes_for width height hunter target plan actions))) e ∙ sym (write_answer Q), at (ℕ_discrete P.number 0))
+one_writing {width} {height} {hunter} {target} {plan} {actions} {file} {a} {b} {r} {s} P Q =
+    (same_answer r s (P.answer ∙ ap (λ k. told_number k (length (bytes_for width height hunter target plan actions))) e ∙ sym Q.answer), at (ℕ_discrete P.number 0))
   where
     e : P.number ≡ Q.number
     e = write_number plan actions P.rules Q.rules
@@ -141,16 +138,16 @@ module _ {width height hunter target : ℕ} {plan actions : List ℕ} {room : �
         ∙ ap (drill trailer plan) actions_are,
   )
     where
-      drill : Trailer → List ℕ → List Action → Drill
+      drill : Trailer → List ℕ → List (Option Action) → Drill
       drill x p l = record { width = x.width; height = x.height; hunter = x.hunter; target = x.target; plan = p; actions = l }
 
 -- So the reader takes back what a call has written, as the same drill.
-pub taken_back : {width height hunter target n : ℕ} {plan actions file file' : List ℕ} {r : Written} → Writes width height hunter target plan actions file r file' → r ≡ Bytes n
+pub taken_back : {width height hunter target n : ℕ} {plan actions file file' : List ℕ} {r : Result ℕ Refusal} → Writes width height hunter target plan actions file r file' → r ≡ Ok n
     → (file_number (take n file') ≡ 0) × (drill_of (take n file') ≡ drill_given width height hunter target plan actions)
 taken_back {width} {height} {hunter} {target} {n} {plan} {actions} {file} {file'} P e =
-    let W = write_granted plan actions ((write_exactly P 0).0 (ap (λ (x : Written). (written_told x).refusal) e)) refl in
+    let W = write_granted plan actions ((write_exactly P 0).0 (ap (λ (x : Result ℕ Refusal). (written_told x).refusal) e)) refl in
     let d = write_done P W in
-    let long : length (bytes_for width height hunter target plan actions) ≡ n = ap (λ (x : Written). (written_told x).bytes) (sym d.0 ∙ e) in
+    let long : length (bytes_for width height hunter target plan actions) ≡ n = ap (λ (x : Result ℕ Refusal). (written_told x).bytes) (sym d.0 ∙ e) in
     let first : take n file' ≡ bytes_for width height hunter target plan actions = ap (take n) d.1 ∙ take_at _ _ n long in
     subst (λ (x : List ℕ). (file_number x ≡ 0) × (drill_of x ≡ drill_given width height hunter target plan actions)) (sym first) (read_back W)
 
@@ -238,14 +235,14 @@ module _ (file : List ℕ) (octets : (i : ℕ) → get_or file i 0 < 256) (taken
       ∙ parts_again file (file_formed file taken) octets
 
   -- .. and the call, given its parts and room for it, writes it so.
-  pub rewrites : {room room' : List ℕ} {r : Written} → length file ≤ length room
+  pub rewrites : {room room' : List ℕ} {r : Result ℕ Refusal} → length file ≤ length room
       → Writes (trailer_of file).width (trailer_of file).height (trailer_of file).hunter (trailer_of file).target (plan_in file) (action_bytes_in file) room r room'
-      → (r ≡ Bytes (length file)) × (room' ≡ file ++ drop (length file) room)
+      → (r ≡ Ok (length file)) × (room' ≡ file ++ drop (length file) room)
   rewrites {room} {room'} {r} l P =
       let z = rewrite_number file (file_formed file taken) l P.rules ∙ taken in
       let same = parts_again file (file_formed file taken) octets in
       let d = write_done P (write_granted (plan_in file) (action_bytes_in file) P.rules z) in
-      subst (λ (x : List ℕ). (r ≡ Bytes (length x)) × (room' ≡ x ++ drop (length x) room)) same d
+      subst (λ (x : List ℕ). (r ≡ Ok (length x)) × (room' ≡ x ++ drop (length x) room)) same d
 
 -- ---- an action
 

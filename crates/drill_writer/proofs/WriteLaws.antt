@@ -1,15 +1,19 @@
 -- What the rules and the answer of a writing settle, and where the file stands in the room.
 use mathlib.Core.Path.{◌≡◌, refl, sym, ap, subst, ◌∙◌}
 use mathlib.Core.List.{List, ◌++◌}
-use Prim.Native.Nat.{ℕ, zero, suc, ◌+◌, ◌≤◌, ◌<◌}
+use Prim.Native.Nat.{ℕ, ◌+◌, ◌/◌, ◌≤◌}
 use native.Mathlib.Omega.{arith}
 use lib.ListN.{length, drop, take-append-drop}
+use Rattle.std.specs.Prelude.{Result, Ok, Err, IsErrAnd}
+use Rattle.refusal.specs.declared.Refusal.{Refusal}
+use Rattle.refusal.specs.declared.Refusal.TheVariants.{Size, Length, Cell, Move, Cost, Tables, Room, File, CutOff}
+use Rattle.refusal.specs.Numbers.{number_of, number_in}
+use Rattle.refusal.proofs.NumberLaws.{refusal_of, refusal_is, numbered}
 use Rattle.decide.proofs.RuledLaws.{passed_one, ruled_one, granted, passed_zero, onward}
 use Rattle.text.specs.Put.{Put}
-use Rattle.drill_writer.specs.declared.Written.{Written}
-use Rattle.drill_writer.specs.declared.Written.TheVariants.{Bytes, Refused}
-use Rattle.drill_writer.specs.Drill.{bytes_for}
-use Rattle.drill_writer.specs.Promise.{WriteTold, written_told, told_number, ActionRules, WriteRules, Writable}
+use Rattle.text.proofs.PutLaws.{put_then, put_as}
+use Rattle.drill_writer.specs.Drill.{trailer_bytes, trailer_for, bytes_for}
+use Rattle.drill_writer.specs.Promise.{WriteTold, written_told, told_number, ActionRules, WriteRules, Writable, Writes}
 use Rattle.drill_writer.proofs.PartLaws.{length_three}
 
 -- ---- the room
@@ -32,20 +36,29 @@ put_whole {b} {a} {w} {r} p =
 
 -- ---- the answer
 
--- The answer as the code returns it.
-abbrev pub answered : ℕ → ℕ → Written
-answered zero n = Bytes n
-answered (suc k) n = Refused (suc k)
+-- The refusal that an answer tells is the number in it.
+pub refusal_told : (r : Result ℕ Refusal) → (written_told r).refusal ≡ number_in r
+refusal_told (Ok n) = refl
+refusal_told (Err x) = refl
 
--- An answer told by its number is the number's.
-pub answer_is : (r : Written) (k n : ℕ) → 0 < n → written_told r ≡ told_number k n → r ≡ answered k n
-answer_is (Bytes m) zero n l e = ap Bytes (ap (λ (x : WriteTold). x.bytes) e)
-answer_is (Bytes m) (suc k) n l e = absurd (omega (arith, ap (λ (x : WriteTold). x.refusal) e))
-answer_is (Refused j) zero n l e = absurd (omega (arith, ap (λ (x : WriteTold). x.bytes) e))
-answer_is (Refused j) (suc k) n l e = ap Refused (ap (λ (x : WriteTold). x.refusal) e)
+-- Two answers that tell the same are one.
+pub same_answer : (r s : Result ℕ Refusal) → written_told r ≡ written_told s → r ≡ s
+same_answer (Ok n) (Ok m) e = ap Ok (ap (λ (x : WriteTold). x.bytes) e)
+same_answer (Ok n) (Err y) e = absurd (omega (arith, numbered y, ap (λ (x : WriteTold). x.refusal) e))
+same_answer (Err x) (Ok m) e = absurd (omega (arith, numbered x, ap (λ (y : WriteTold). y.refusal) e))
+same_answer (Err x) (Err y) e = ap Err (sym (refusal_is x) ∙ ap (λ (t : WriteTold). refusal_of t.refusal) e ∙ refusal_is y)
 
-pub done_told : {k m n : ℕ} → k ≡ 0 → m ≡ n → written_told (Bytes m) ≡ told_number k n
-done_told z e = rw (z, e) refl
+-- What a refusal tells is told by its number.
+pub told_err : (n : ℕ) (x : Refusal) → written_told (Err x) ≡ told_number (number_of x) n
+told_err n Size = refl
+told_err n Length = refl
+told_err n Cell = refl
+told_err n Move = refl
+told_err n Cost = refl
+told_err n Tables = refl
+told_err n Room = refl
+told_err n File = refl
+told_err n CutOff = refl
 
 -- ---- the rules
 
@@ -83,3 +96,32 @@ module _ {width height hunter target : ℕ} (plan actions : List ℕ) {room k : 
 -- There is room for plan, actions and trailer.
 pub room_for : {width height hunter target : ℕ} {plan actions : List ℕ} {room : ℕ} → Writable width height hunter target plan actions room → length plan + length actions + 12 ≤ room
 room_for {width} {height} {hunter} {target} {plan} {actions} W = omega (arith, W.roomy, length_written width height hunter target plan actions)
+
+-- ---- the promise
+
+module _ {width height hunter target : ℕ} {plan actions file : List ℕ} where
+  -- A refusal by the first rule that is broken, which changes nothing ..
+  pub refuses : (r : Result ℕ Refusal) (x : Refusal) → IsErrAnd r (λ e. e ≡ x) → WriteRules width height hunter target plan actions (length file) (number_of x)
+      → Writes width height hunter target plan actions file r file
+  refuses (Ok n) x e rules = absurd e
+  refuses (Err y) x e rules = record {
+    number = number_of x;
+    rules = rules;
+    answer = rw e (told_err _ x);
+    refused = λ _. refl;
+    done = λ z. absurd (omega (arith, numbered x, z));
+  }
+
+  -- .. and where none is, plan, actions and trailer put one behind the other.
+  pub writes : {a b c d : List ℕ} {p q r : ℕ} → WriteRules width height hunter target plan actions (length file) 0
+      → Put file 0 plan p a → Put a p actions q b → Put b q c r d → c ≡ trailer_bytes (trailer_for width height hunter target (length actions / 5))
+      → Writes width height hunter target plan actions file (Ok r) d
+  writes rules put_plan put_actions put_trailer e =
+      let whole = put_whole (put_then (put_then put_plan put_actions) (put_as e refl put_trailer)) in
+      record {
+        number = 0;
+        rules = rules;
+        answer = ap (λ n. written_told (Ok n)) whole.0;
+        refused = λ n. absurd (n refl);
+        done = λ _. whole.1;
+      }

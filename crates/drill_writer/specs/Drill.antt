@@ -1,7 +1,7 @@
 -- A drill, and its file: "From the front: 4N plan bytes, then actions of 5 bytes, then a trailer of 12 bytes that points back."
-use Rattle.std.specs.Prelude.{List, [], ◌∷◌, ◌++◌, ℕ, ◌*◌, ◌/◌, ◌%◌, length, take, drop}
+use Rattle.std.specs.Prelude.{Option, None, Some, List, [], ◌∷◌, ◌++◌, ℕ, ◌*◌, ◌/◌, ◌%◌, length, take, drop}
 use Rattle.drill_file.specs.declared.Action.{Action}
-use Rattle.drill_file.specs.declared.Action.TheVariants.{Change, Hunter, Target, Search, Bad}
+use Rattle.drill_file.specs.declared.Action.TheVariants.{Change, Hunter, Target, Search}
 use Rattle.drill_file.specs.declared.Trailer.{Trailer}
 use Rattle.drill_file.specs.File.{trailer_of, cells, actions_from, actions_of}
 use Rattle.drill_file.specs.Numbers.{plan_in}
@@ -13,7 +13,7 @@ pub record Drill : Type 0 where
   pub hunter : ℕ
   pub target : ℕ
   pub plan : List ℕ
-  pub actions : List Action
+  pub actions : List (Option Action)
 
 -- The drill that the reader finds in a file.
 abbrev pub drill_of : List ℕ → Drill
@@ -38,19 +38,19 @@ abbrev pub in_four : ℕ → List ℕ
 in_four n = in_two (n % 65536) ++ in_two (n / 65536)
 
 -- "Action: kind 1, cell 2, direction 1, cost 1. Kinds: 1 change, 2 hunter, 3 target, 4 search." No kind is 0: five zeros are badly formed.
-unfoldable pub action_bytes : Action → List ℕ
-action_bytes (Change u d cost) = 1 ∷ in_two u ++ (d ∷ cost ∷ [])
-action_bytes (Hunter s) = 2 ∷ in_two s ++ (0 ∷ 0 ∷ [])
-action_bytes (Target s) = 3 ∷ in_two s ++ (0 ∷ 0 ∷ [])
-action_bytes Search = 4 ∷ 0 ∷ 0 ∷ 0 ∷ 0 ∷ []
-action_bytes Bad = 0 ∷ 0 ∷ 0 ∷ 0 ∷ 0 ∷ []
+unfoldable pub action_bytes : Option Action → List ℕ
+action_bytes (Some (Change u d cost)) = 1 ∷ in_two u ++ (d ∷ cost ∷ [])
+action_bytes (Some (Hunter s)) = 2 ∷ in_two s ++ (0 ∷ 0 ∷ [])
+action_bytes (Some (Target s)) = 3 ∷ in_two s ++ (0 ∷ 0 ∷ [])
+action_bytes (Some Search) = 4 ∷ 0 ∷ 0 ∷ 0 ∷ 0 ∷ []
+action_bytes None = 0 ∷ 0 ∷ 0 ∷ 0 ∷ 0 ∷ []
 
 -- The bytes of some actions, and the actions that bytes make, five for each.
-unfoldable pub actions_bytes : List Action → List ℕ
+unfoldable pub actions_bytes : List (Option Action) → List ℕ
 actions_bytes [] = []
 actions_bytes (a ∷ l) = action_bytes a ++ actions_bytes l
 
-abbrev pub actions_in : List ℕ → List Action
+abbrev pub actions_in : List ℕ → List (Option Action)
 actions_in bytes = actions_from bytes 0 (length bytes / 5)
 
 -- "width 1, height 1, hunter 2, target 2, number of actions 2, offset of the actions 4"

@@ -1,11 +1,11 @@
 -- What the call that writes a drill file promises: the answer and every byte of the room, for every input.
-use Rattle.std.specs.Prelude.{◌≡◌, true, ◌≢◌, List, ◌++◌, ℕ, zero, suc, ◌+◌, ◌*◌, ◌/◌, ◌≤◌, ◌<◌, length, drop}
+use Rattle.std.specs.Prelude.{Result, Ok, Err, ◌≡◌, true, ◌≢◌, List, ◌++◌, ℕ, zero, suc, ◌+◌, ◌*◌, ◌/◌, ◌≤◌, ◌<◌, length, drop}
 use Rattle.decide.specs.Ruled.{Ruled, Passed}
+use Rattle.refusal.specs.declared.Refusal.{Refusal}
+use Rattle.refusal.specs.Numbers.{number_of}
 use Rattle.plan.specs.Cells.{Size}
 use Rattle.plan.specs.Costs.{plan_of, Bytes, Edges}
 use Rattle.drill_file.specs.File.{well_formed}
-use Rattle.drill_writer.specs.declared.Written.{Written}
-use Rattle.drill_writer.specs.declared.Written.TheVariants.{Bytes as WrittenBytes, Refused}
 use Rattle.drill_writer.specs.Drill.{actions_in, bytes_for}
 
 -- ---- the answer
@@ -15,9 +15,9 @@ pub record WriteTold : Type 0 where
   pub refusal : ℕ
   pub bytes : ℕ
 
-abbrev pub written_told : Written → WriteTold
-written_told (WrittenBytes n) = record { refusal = 0; bytes = n }
-written_told (Refused k) = record { refusal = k; bytes = 0 }
+abbrev pub written_told : Result ℕ Refusal → WriteTold
+written_told (Ok n) = record { refusal = 0; bytes = n }
+written_told (Err r) = record { refusal = number_of r; bytes = 0 }
 
 -- What is told of a file of so many bytes, by the number of the first rule broken; 0 is none.
 abbrev pub told_number : ℕ → ℕ → WriteTold
@@ -60,7 +60,7 @@ pub record Writable (width height hunter target : ℕ) (plan actions : List ℕ)
 -- ---- the promise
 
 -- The drill file stands first in the room, and the rest of the room keeps its contents; a refusal changes nothing.
-pub record Writes (width height hunter target : ℕ) (plan actions file : List ℕ) (r : Written) (file' : List ℕ) : Type 0 where
+pub record Writes (width height hunter target : ℕ) (plan actions file : List ℕ) (r : Result ℕ Refusal) (file' : List ℕ) : Type 0 where
   pub number : ℕ
   pub rules : WriteRules width height hunter target plan actions (length file) number
   pub answer : written_told r ≡ told_number number (length (bytes_for width height hunter target plan actions))

@@ -1,54 +1,45 @@
 // The drill file written: a plan, a hunter, a target and actions put into lent room as the reader takes them.
 #![tactic(auto)]
 
-ghost use Rattle.std.specs.Prelude.{◌≡◌, ◌+◌, ◌/◌, ◌%◌, ◌≤◌, length};
+ghost use Rattle.std.specs.Prelude.{◌≡◌, ◌+◌, ◌≤◌, length};
+ghost use Rattle.refusal.specs.Numbers.{number_in};
 ghost use Rattle.plan.specs.Cells.{Size};
-ghost use Rattle.drill_writer.specs.Drill.{trailer_bytes, trailer_for};
+ghost use Rattle.drill_writer.specs.Drill.{in_two, trailer_bytes, trailer_for};
 ghost use Rattle.drill_writer.specs.Promise.{ActionRules, WriteRules, Writes};
 
 use drill_file;
+use drill_file::{ACTION, GREATEST_FILE, TRAILER};
 use plan;
-use text;
+use refusal::Refusal;
+use text::Text;
 
-// The greatest length of a drill file, and the lengths of an action and of the trailer.
-const GREATEST_FILE: usize = 65536;
-
-const ACTION: usize = 5;
-
-const TRAILER: usize = 12;
-
-// How many bytes were written, or refused with document 01's number.
-#[derive(Clone, Copy)]
-pub enum Written {
-    Bytes(usize),
-    Refused(u8),
-}
-
-// The number of the first rule that actions behind a plan of so many bytes and the room for their file break, 0 if none.
-fn actions_refusal(plan: usize, actions: &[u8], room: usize) -> u8
+// Refuses by the first rule that actions behind a plan of so many bytes and the room for their file break.
+#[tactic(auto, using(decide::proofs::RuledLaws::in_order))]
+fn check_actions(plan: usize, actions: &[u8], room: usize) -> Result<(), Refusal>
     requires { plan ≤ 16384 }
-    ensures { ActionRules plan actions.now (plan + length actions.now + 12) room result }
+    ensures { ActionRules plan actions.now (plan + length actions.now + 12) room (number_in result) }
 {
     let count = actions.len() / ACTION;
     // A slice has fewer than 2^63 bytes, so this sum does not wrap.
     let file = plan + actions.len() + TRAILER;
     if ACTION * count != actions.len() {
-        return 8; // what is left over is no action
+        return Err(Refusal::File); // what is left over is no action
     }
     if GREATEST_FILE < file {
-        return 8; // more actions than the length allows
+        return Err(Refusal::File); // more actions than the length allows
     }
     if !drill_file::well_formed(actions, 0, count) {
-        return 8; // an action badly formed
+        return Err(Refusal::File); // an action badly formed
     }
     if room < file {
-        return 7;
+        return Err(Refusal::Room);
     }
-    0
+    Ok(())
 }
 
-// The number of the first rule that a drill and the room for its file break, 0 if none.
-fn refusal(
+// Refuses by the first rule that a drill and the room for its file break.
+#[tactic(auto, using(decide::proofs::RuledLaws::in_order))]
+fn check(
     width: usize,
     height: usize,
     hunter: usize,
@@ -56,43 +47,34 @@ fn refusal(
     plan: &[u8],
     actions: &[u8],
     room: usize,
-) -> u8
-    ensures { WriteRules width height hunter target plan.now actions.now room result }
+) -> Result<(), Refusal>
+    ensures { WriteRules width height hunter target plan.now actions.now room (number_in result) }
 {
     if !plan::is_size(width, height) {
-        return 1;
+        return Err(Refusal::Size);
     }
     let cells = height * width;
     if plan.len() != 4 * cells {
-        return 2;
+        return Err(Refusal::Length);
     }
-    if cells <= hunter {
-        return 3;
-    }
-    if cells <= target {
-        return 3;
+    if cells <= hunter || cells <= target {
+        return Err(Refusal::Cell);
     }
     if !plan::edges_hold(width, height, plan) {
-        return 4;
+        return Err(Refusal::Move);
     }
     if !plan::bytes_hold(width, height, plan) {
-        return 5;
+        return Err(Refusal::Cost);
     }
-    actions_refusal(plan.len(), actions, room)
+    check_actions(plan.len(), actions, room)
 }
 
-// The low byte of a number ..
-fn low_byte(n: usize) -> u8
-    ensures { result ≡ n % 256 }
+// The two low bytes of a number, the lower first.
+fn two_bytes(n: usize) -> [u8; 2]
+    ensures { result ≡ in_two n }
 {
-    (n % 256) as u8
-}
-
-// .. and the next one.
-fn high_byte(n: usize) -> u8
-    ensures { result ≡ n / 256 % 256 }
-{
-    (n / 256 % 256) as u8
+    let [low, high, ..] = n.to_le_bytes();
+    [low, high]
 }
 
 // The trailer of a drill of so many actions. Their offset is at most 16,384, so its two high bytes are 0.
@@ -107,23 +89,28 @@ fn trailer_bytes(
     ensures { result ≡ trailer_bytes (trailer_for width height hunter target count) }
 {
     let offset = 4 * (height * width);
+    let [hunter_low, hunter_high] = two_bytes(hunter);
+    let [target_low, target_high] = two_bytes(target);
+    let [count_low, count_high] = two_bytes(count);
+    let [offset_low, offset_high] = two_bytes(offset);
     [
         width as u8,
         height as u8,
-        low_byte(hunter),
-        high_byte(hunter),
-        low_byte(target),
-        high_byte(target),
-        low_byte(count),
-        high_byte(count),
-        low_byte(offset),
-        high_byte(offset),
+        hunter_low,
+        hunter_high,
+        target_low,
+        target_high,
+        count_low,
+        count_high,
+        offset_low,
+        offset_high,
         0,
         0,
     ]
 }
 
-// Writes the drill file of a plan, its hunter and target and its actions, five bytes each, into the lent room.
+// Writes the drill file of a plan, its hunter and target and its actions, five bytes each, into the lent room, and tells how many bytes it has.
+#[tactic(auto, using(crate::proofs::WriteLaws::writes))]
 pub fn write(
     width: usize,
     height: usize,
@@ -132,16 +119,17 @@ pub fn write(
     plan: &[u8],
     actions: &[u8],
     file: &mut [u8],
-) -> Written
+) -> Result<usize, Refusal>
     ensures { Writes width height hunter target plan.now actions.now file.old result file.new }
 {
-    let number = refusal(width, height, hunter, target, plan, actions, file.len());
-    if number != 0 {
-        return Written::Refused(number);
-    }
+    check(width, height, hunter, target, plan, actions, file.len())?;
     let trailer = trailer_bytes(width, height, hunter, target, actions.len() / ACTION);
-    let mut end = text::put_word(plan, file, 0);
-    end = text::put_word(actions, file, end);
-    end = text::put_word(&trailer, file, end);
-    Written::Bytes(end)
+    let mut written = Text {
+        room: file,
+        used: 0,
+    };
+    written.put_word(plan);
+    written.put_word(actions);
+    written.put_word(&trailer);
+    Ok(written.used)
 }

@@ -7,5 +7,4 @@ use Rattle.drill_writer.proofs.trailer_bytes.Goals as goal
 pub returns : goal.returns
 returns c =
     let s = c.args in
-    trailer_of_bytes s.width s.height s.hunter s.target s.count (omega (arith, area c.requires)) c.low_byte.ensures c.high_byte.ensures c.low_byte-2.ensures c.high_byte-2.ensures
-    c.low_byte-3.ensures c.high_byte-3.ensures c.low_byte-4.ensures c.high_byte-4.ensures
+    trailer_of_bytes s.width s.height s.hunter s.target s.count (omega (arith, area c.requires)) c.two_bytes.ensures c.two_bytes-2.ensures c.two_bytes-3.ensures c.two_bytes-4.ensures

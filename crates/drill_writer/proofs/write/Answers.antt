@@ -1,34 +1,19 @@
--- Refused with the number that `refusal` found and nothing written; else plan, actions and trailer are put one behind the other, from the first byte on (`put_whole`).
-use Rattle.std.proofs.Common.{refl, arith}
-use Rattle.text.proofs.PutLaws.{put_then, put_as}
-use Rattle.drill_writer.proofs.WriteLaws.{room_for, put_whole, done_told, write_granted}
+-- Refused by what `check` found and nothing written; else plan, actions and trailer are put one behind the other, from the first byte on.
+use Rattle.std.proofs.Common.{refl, ap, length, arith}
+use Rattle.drill_writer.proofs.WriteLaws.{room_for, refuses, write_granted}
 use Rattle.drill_writer.proofs.write.Goals as goal
 
-pub put_word-end-requires : goal.put_word-end-requires
-put_word-end-requires c = omega (arith, room_for (write_granted _ _ c.refusal-number.ensures c.if-number-ne0.false))
+pub returns-in_err-check : goal.returns-in_err-check
+returns-in_err-check c = refuses c.from_residual.result _ c.from_residual.ensures.1 c.in_err-check.ensures
 
-pub put_word-end-requires-2 : goal.put_word-end-requires-2
-put_word-end-requires-2 c =
-    omega (arith, room_for (write_granted _ _ c.refusal-number.ensures c.if-number-ne0.false), c.put_word-end.ensures.end, c.put_word-end.ensures.long)
+pub trailer_bytes-trailer-requires : goal.trailer_bytes-trailer-requires
+trailer_bytes-trailer-requires c = (write_granted _ _ c.in_ok-check.ensures refl).size
 
-pub put_word-end-requires-3 : goal.put_word-end-requires-3
-put_word-end-requires-3 c =
-    omega (
-      arith,
-      room_for (write_granted _ _ c.refusal-number.ensures c.if-number-ne0.false),
-      c.put_word-end.ensures.end,
-      c.put_word-end.ensures.long,
-      c.put_word-end-2.ensures.end,
-      c.put_word-end-2.ensures.long,
-    )
+pub put_word-requires : goal.put_word-requires
+put_word-requires c = omega (arith, room_for (write_granted _ _ c.in_ok-check.ensures refl))
 
-pub returns : goal.returns
-returns c =
-    let whole = put_whole (put_then (put_then c.put_word-end.ensures c.put_word-end-2.ensures) (put_as c.trailer_bytes-trailer.ensures refl c.put_word-end-3.ensures)) in
-    record {
-      number = c.refusal-number.result;
-      rules = c.refusal-number.ensures;
-      answer = done_told c.if-number-ne0.false whole.0;
-      refused = λ n. absurd (n c.if-number-ne0.false);
-      done = λ _. whole.1;
-    }
+pub put_word-requires-2 : goal.put_word-requires-2
+put_word-requires-2 c = omega (arith, room_for (write_granted _ _ c.in_ok-check.ensures refl))
+
+pub put_word-requires-3 : goal.put_word-requires-3
+put_word-requires-3 c = omega (arith, room_for (write_granted _ _ c.in_ok-check.ensures refl), ap length c.trailer_bytes-trailer.ensures)
