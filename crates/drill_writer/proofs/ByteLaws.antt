@@ -1,12 +1,12 @@
 -- Numbers in two bytes and in four, and back; a file from a place on as the numbers that are read there.
 use mathlib.Core.Path.{◌≡◌, refl, ap, ◌∙◌}
-use mathlib.Core.List.{List, [], ◌∷◌, ◌++◌}
+use mathlib.Core.List.{List, ◌∷◌, ◌++◌}
 use Prim.Native.Nat.{ℕ, suc, ◌+◌, ◌*◌, ◌/◌, ◌%◌, ◌≤◌, ◌<◌}
 use native.Mathlib.Omega.{arith}
 use lib.ListN.{length, get_or, drop}
 use lib.Seq.{drop-cons}
 use Rattle.drill_file.specs.File.{two, four}
-use Rattle.drill_writer.specs.Drill.{in_two, in_four, trailer_bytes, trailer_for}
+use Rattle.drill_writer.specs.Drill.{in_two, in_four}
 
 -- A number of two bytes read from its bytes ..
 pub two_back : (n : ℕ) → n < 65536 → n % 256 + 256 * (n / 256 % 256) ≡ n
@@ -29,15 +29,6 @@ low_pair a b l = omega arith
 
 high_pair : (a b : ℕ) → a < 65536 → (a + 65536 * b) / 65536 ≡ b
 high_pair a b l = omega arith
-
--- A trailer by its bytes, where the offset has two bytes and two zeros.
-pub trailer_of_bytes : (width height hunter target count : ℕ) {a b c d : List ℕ} → 4 * (height * width) < 65536 → a ≡ in_two hunter → b ≡ in_two target → c ≡ in_two count → d ≡ in_two (4 * (height * width))
-    → width ∷ height ∷ get_or a 0 0 ∷ get_or a 1 0 ∷ get_or b 0 0 ∷ get_or b 1 0 ∷ get_or c 0 0 ∷ get_or c 1 0 ∷ get_or d 0 0 ∷ get_or d 1 0 ∷ 0 ∷ 0 ∷ []
-    ≡ trailer_bytes (trailer_for width height hunter target count)
-trailer_of_bytes width height hunter target count l a b c d =
-    let low_pair_is : 4 * (height * width) % 65536 ≡ 4 * (height * width) = omega arith in
-    let high_pair_is : 4 * (height * width) / 65536 ≡ 0 = omega arith in
-    rw (a, b, c, d, low_pair_is, high_pair_is)
 
 module _ (file : List ℕ) where
   -- From a place on: the byte there, and what follows it ..

@@ -1,5 +1,6 @@
 -- What the rules and the answer of a writing settle, and where the file stands in the room.
 use mathlib.Core.Path.{◌≡◌, refl, sym, ap, subst, ◌∙◌}
+use mathlib.Core.Logic.{◌≢◌}
 use mathlib.Core.List.{List, ◌++◌}
 use Prim.Native.Nat.{ℕ, ◌+◌, ◌/◌, ◌≤◌}
 use native.Mathlib.Omega.{arith}
@@ -40,6 +41,11 @@ put_whole {b} {a} {w} {r} p =
 pub refusal_told : (r : Result ℕ Refusal) → (written_told r).refusal ≡ number_in r
 refusal_told (Ok n) = refl
 refusal_told (Err x) = refl
+
+-- What is told of a refusal, by its number.
+pub refused_told : (r : Result ℕ Refusal) {k : ℕ} → number_in r ≡ k → k ≢ 0 → written_told r ≡ record { refusal = k; bytes = 0 }
+refused_told (Ok n) e z = absurd (z (sym e))
+refused_told (Err x) e z = rw e
 
 -- Two answers that tell the same are one.
 pub same_answer : (r s : Result ℕ Refusal) → written_told r ≡ written_told s → r ≡ s

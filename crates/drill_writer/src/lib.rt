@@ -1,14 +1,13 @@
 // The drill file written: a plan, a hunter, a target and actions put into lent room as the reader takes them.
 #![tactic(auto)]
 
-ghost use Rattle.std.specs.Prelude.{◌≡◌, ◌+◌, ◌≤◌, length};
+ghost use Rattle.std.specs.Prelude.{◌≡◌, ◌+◌, ◌<◌, ◌≤◌, length};
 ghost use Rattle.refusal.specs.Numbers.{number_in};
-ghost use Rattle.plan.specs.Cells.{Size};
-ghost use Rattle.drill_writer.specs.Drill.{in_two, trailer_bytes, trailer_for};
+ghost use Rattle.drill_writer.specs.Drill.{trailer_bytes};
 ghost use Rattle.drill_writer.specs.Promise.{ActionRules, WriteRules, Writes};
 
 use drill_file;
-use drill_file::{ACTION, GREATEST_FILE, TRAILER};
+use drill_file::{ACTION, GREATEST_FILE, TRAILER, Trailer};
 use plan;
 use refusal::Refusal;
 use text::Text;
@@ -69,43 +68,28 @@ fn check(
     check_actions(plan.len(), actions, room)
 }
 
-// The two low bytes of a number, the lower first.
-fn two_bytes(n: usize) -> [u8; 2]
-    ensures { result ≡ in_two n }
+// The bytes of a trailer.
+fn trailer_bytes(t: Trailer) -> [u8; 12]
+    requires { (t.width < 256) × (t.height < 256) }
+    ensures { result ≡ trailer_bytes t }
 {
-    let [low, high, ..] = n.to_le_bytes();
-    [low, high]
-}
-
-// The trailer of a drill of so many actions. Their offset is at most 16,384, so its two high bytes are 0.
-fn trailer_bytes(
-    width: usize,
-    height: usize,
-    hunter: usize,
-    target: usize,
-    count: usize,
-) -> [u8; 12]
-    requires { Size width height }
-    ensures { result ≡ trailer_bytes (trailer_for width height hunter target count) }
-{
-    let offset = 4 * (height * width);
-    let [hunter_low, hunter_high] = two_bytes(hunter);
-    let [target_low, target_high] = two_bytes(target);
-    let [count_low, count_high] = two_bytes(count);
-    let [offset_low, offset_high] = two_bytes(offset);
+    let [hunter_low, hunter_high, ..] = t.hunter.to_le_bytes();
+    let [target_low, target_high, ..] = t.target.to_le_bytes();
+    let [actions_low, actions_high, ..] = t.actions.to_le_bytes();
+    let [offset_lowest, offset_low, offset_high, offset_highest, ..] = t.offset.to_le_bytes();
     [
-        width as u8,
-        height as u8,
+        t.width as u8,
+        t.height as u8,
         hunter_low,
         hunter_high,
         target_low,
         target_high,
-        count_low,
-        count_high,
+        actions_low,
+        actions_high,
+        offset_lowest,
         offset_low,
         offset_high,
-        0,
-        0,
+        offset_highest,
     ]
 }
 
@@ -123,7 +107,14 @@ pub fn write(
     ensures { Writes width height hunter target plan.now actions.now file.old result file.new }
 {
     check(width, height, hunter, target, plan, actions, file.len())?;
-    let trailer = trailer_bytes(width, height, hunter, target, actions.len() / ACTION);
+    let trailer = trailer_bytes(Trailer {
+        width,
+        height,
+        hunter,
+        target,
+        actions: actions.len() / ACTION,
+        offset: 4 * (height * width),
+    });
     let mut written = Text {
         room: file,
         used: 0,

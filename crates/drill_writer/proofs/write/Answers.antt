@@ -7,7 +7,7 @@ pub returns-in_err-check : goal.returns-in_err-check
 returns-in_err-check c = refuses c.from_residual.result _ c.from_residual.ensures.1 c.in_err-check.ensures
 
 pub trailer_bytes-trailer-requires : goal.trailer_bytes-trailer-requires
-trailer_bytes-trailer-requires c = (write_granted _ _ c.in_ok-check.ensures refl).size
+trailer_bytes-trailer-requires c = let z = (write_granted _ _ c.in_ok-check.ensures refl).size in (omega (arith, z.narrow), omega (arith, z.low))
 
 pub put_word-requires : goal.put_word-requires
 put_word-requires c = omega (arith, room_for (write_granted _ _ c.in_ok-check.ensures refl))
