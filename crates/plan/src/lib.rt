@@ -119,6 +119,15 @@ pub fn stays_in(width: usize, height: usize, at: Spot, d: usize) -> bool
     at.column + 1 < width
 }
 
+// Is this a direction, and does the move in it from a cell stay in the plan?
+pub fn is_move(width: usize, height: usize, cell: usize, d: usize) -> bool
+    requires size { Size width height }
+    requires inside { cell < height * width }
+    ensures { Decides result ((d < 4) × Stays width height cell d) }
+{
+    d < 4 && stays_in(width, height, spot_of(width, cell), d)
+}
+
 // The spot that a move from a spot leads to, where it stays in the plan.
 pub fn moved(at: Spot, d: usize) -> Spot
     requires d_bound { (d < 4) × Placed at }
