@@ -6,6 +6,7 @@ use native.Mathlib.Omega.{arith}
 use native.Mathlib.Decide.{ℕ_discrete}
 use lib.ListN.{get_or, set}
 use lib.Seq.{set-get_or}
+use Rattle.std.specs.Prelude.{Ok}
 use Rattle.method.specs.Sound as method_sound
 use Rattle.method.proofs.Theorems as method_theorems
 use Rattle.plan.specs.Costs.{Obeys}
@@ -16,7 +17,6 @@ use Rattle.tables.specs.Lent.{Tables, frame, cells, graph_in, floor, graph, sess
 use Rattle.tables.specs.Sound.{Sound}
 use Rattle.tables.proofs.FrameLaws.{altered_in}
 use Rattle.change.specs.Effects.{Touches}
-use Rattle.session.specs.declared.Answer.TheVariants.{Done}
 use Rattle.session.specs.declared.Reply.{Reply}
 use Rattle.session.specs.Promises.{Alike}
 use Rattle.session.proofs.RefusalLaws.{answered, answer_is}
@@ -31,7 +31,7 @@ change_answer {r = r} P = answer_is r.answer P.number P.answer
 
 -- ---- a change that no rule refuses is done
 
-pub change_done : {s : Session} {t t' : Tables} {u d cost : ℕ} {r : Reply} → Changes s t u d cost r t' → Fits (cells s) t → Workable s t u d cost → r.answer ≡ Done
+pub change_done : {s : Session} {t t' : Tables} {u d cost : ℕ} {r : Reply} → Changes s t u d cost r t' → Fits (cells s) t → Workable s t u d cost → r.answer ≡ Ok tt
 change_done P f w = change_answer P ∙ ap answered (change_passes P.rules f w)
 
 -- ---- two results of one change: equal but for the order inside the heap
@@ -58,25 +58,25 @@ one_change {s} {a = a} {a' = a'} {r = r} {r' = r'} P Q = let x = at (ℕ_discret
 
 module _ {s : Session} {t t' : Tables} {u d cost : ℕ} {r : Reply} (P : Changes s t u d cost r t') where
   -- The cell entered is not written: record and tables are as they were, but for the byte.
-  pub change_byte_alone : r.answer ≡ Done → (Touches s.origin t.g t.rhs t.parent (entered_cell s u d) (back_code d) u (old_cost s t u d) cost → ⊥)
+  pub change_byte_alone : r.answer ≡ Ok tt → (Touches s.origin t.g t.rhs t.parent (entered_cell s u d) (back_code d) u (old_cost s t u d) cost → ⊥)
       → (r.session ≡ s) × (t' ≡ with_plan t (replanned s t u d cost))
   change_byte_alone e n =
-      let p = P.done (done_zero P.number (sym (change_answer P) ∙ e)) in
+      let p = P.done (done_zero P.number P.answer e) in
       let q = p.1.untouched n in
       (p.0 ∙ ap (counted s) q.0, q.1)
 
   -- A move into the search's hunter.
-  pub change_into_hunter : r.answer ≡ Done → entered_cell s u d ≡ s.origin → (r.session ≡ s) × (t' ≡ with_plan t (replanned s t u d cost))
+  pub change_into_hunter : r.answer ≡ Ok tt → entered_cell s u d ≡ s.origin → (r.session ≡ s) × (t' ≡ with_plan t (replanned s t u d cost))
   change_into_hunter e h = change_byte_alone e (λ x. x.0 h)
 
   -- A fall that gives no smaller sum.
-  pub change_no_smaller_sum : r.answer ≡ Done → cost < old_cost s t u d → get_or t.rhs (entered_cell s u d) 0 ≤ get_or t.g u 0 + cost → (r.session ≡ s) × (t' ≡ with_plan t (replanned s t u d cost))
+  pub change_no_smaller_sum : r.answer ≡ Ok tt → cost < old_cost s t u d → get_or t.rhs (entered_cell s u d) 0 ≤ get_or t.g u 0 + cost → (r.session ≡ s) × (t' ≡ with_plan t (replanned s t u d cost))
   change_no_smaller_sum e f l =
       change_byte_alone e (λ x. ⊎_elim (λ (h : (cost < old_cost s t u d) × (get_or t.g u 0 + cost < get_or t.rhs (entered_cell s u d) 0)). omega (arith, h.1, l))
       (λ (h : (old_cost s t u d < cost) × (get_or t.parent (entered_cell s u d) 0 ≡ back_code d)). omega (arith, h.0, f)) x.1)
 
   -- A rise where u is not the parent.
-  pub change_not_the_parent : r.answer ≡ Done → old_cost s t u d < cost → get_or t.parent (entered_cell s u d) 0 ≢ back_code d → (r.session ≡ s) × (t' ≡ with_plan t (replanned s t u d cost))
+  pub change_not_the_parent : r.answer ≡ Ok tt → old_cost s t u d < cost → get_or t.parent (entered_cell s u d) 0 ≢ back_code d → (r.session ≡ s) × (t' ≡ with_plan t (replanned s t u d cost))
   change_not_the_parent e f n =
       change_byte_alone e (λ x. ⊎_elim (λ (h : (cost < old_cost s t u d) × (get_or t.g u 0 + cost < get_or t.rhs (entered_cell s u d) 0)). omega (arith, h.0, f))
       (λ (h : (old_cost s t u d < cost) × (get_or t.parent (entered_cell s u d) 0 ≡ back_code d)). n h.1) x.1)
@@ -96,9 +96,9 @@ module _ {s : Session} {t t' : Tables} {u d cost : ℕ} {r : Reply} (P : Changes
 -- ---- sound tables
 
 -- A change that is done leaves sound tables.
-pub changed_sound : {s : Session} {t t' : Tables} {u d cost : ℕ} {r : Reply} → Changes s t u d cost r t' → r.answer ≡ Done → Sound r.session t'
+pub changed_sound : {s : Session} {t t' : Tables} {u d cost : ℕ} {r : Reply} → Changes s t u d cost r t' → r.answer ≡ Ok tt → Sound r.session t'
 changed_sound {s} {t} {t'} {u} {d} {cost} {r} P e =
-    let z = done_zero P.number (sym (change_answer P) ∙ e) in
+    let z = done_zero P.number P.answer e in
     let p = P.done z in
     subst (λ x. Sound x t') (sym p.0) (at (change_granted P.rules z) p.1)
   where

@@ -82,13 +82,6 @@ abbrev Settled : Session → Tables → ℕ → ℕ → ℕ → ℕ → Asked �
 Settled s t u d cost v Keeps = Unit {0}
 Settled s t u d cost v (Takes w f) = (w ≡ v) × ((f.rhs ≡ infinite) ⊎ (f.rhs ≤ most_rhs)) × Touches s.origin t.g t.rhs t.parent v (back_code d) u (old_cost s t u d) cost
 
--- A change that is worked in: no rule refuses it, v is the cell entered, k the move's code there, and r what it asks.
-pub record Working (s : Session) (t : Tables) (u d cost v k : ℕ) (r : Asked) : Type 0 where
-  pub workable : Workable s t u d cost
-  pub cell_is : v ≡ entered_cell s u d
-  pub code_is : k ≡ back_code d
-  pub asks : Asks s (replanned s t u d cost) t.g t.rhs t.parent v k u (old_cost s t u d) cost r
-
 module _ {s : Session} {t : Tables} {u d cost : ℕ} (W : Workable s t u d cost) where
   -- ---- before the change
 
@@ -140,15 +133,14 @@ module _ {s : Session} {t : Tables} {u d cost : ℕ} (W : Workable s t u d cost)
         (refl, sum_small l c (sound_small_g W.sound u) (sound_small_rhs W.sound v), (n, inl (f, l)))
     settled (rises n f l) = (refl, anew_small (frame s) (replanned s t u d cost) obeys_after t.g (sound_small_g W.sound) v, (n, inr (f, l)))
 
-module _ {s : Session} {t : Tables} {u d cost v k : ℕ} {r : Asked} (Z : Working s t u d cost v k r) where
-  W : Workable s t u d cost
-  W = Z.workable
-
+-- A change that is worked in: no rule refuses it, v is the cell entered, k the move's code there, and r what it asks.
+module _ {s : Session} {t : Tables} {u d cost v k : ℕ} {r : Asked} (W : Workable s t u d cost) (ev : v ≡ entered_cell s u d) (ek : k ≡ back_code d)
+    (A : Asks s (replanned s t u d cost) t.g t.rhs t.parent v k u (old_cost s t u d) cost r) where
   asks : Asking s t u d cost v r
-  asks = subst (λ x. Asks s (replanned s t u d cost) t.g t.rhs t.parent v x u (old_cost s t u d) cost r) Z.code_is Z.asks
+  asks = subst (λ x. Asks s (replanned s t u d cost) t.g t.rhs t.parent v x u (old_cost s t u d) cost r) ek A
 
   as_method : obeyed (hunt_after s t u d cost) (core t) r ≡ method_change s t u d cost
-  as_method = asked_is W Z.cell_is asks
+  as_method = asked_is W ev asks
 
   -- the cell keeps its numbers: only the byte changed
   pub kept_worked : r ≡ Keeps → WorkedIn s t u d cost s.count (with_plan t (replanned s t u d cost))
@@ -162,7 +154,7 @@ module _ {s : Session} {t : Tables} {u d cost v k : ℕ} {r : Asked} (Z : Workin
 
   module _ {w : ℕ} {f : Found} (q : r ≡ Takes w f) where
     here : Settled s t u d cost v (Takes w f)
-    here = subst (Settled s t u d cost v) q (settled W Z.cell_is asks)
+    here = subst (Settled s t u d cost v) q (settled W ev asks)
 
     -- it can take what is asked
     pub asked_taking : {a : Aim} {at : Spot} → AimOf s a → At s.width w at → Taking a s.count w at f t.g t.rhs t.parent t.k1 t.k2 t.place t.list
@@ -182,7 +174,7 @@ module _ {s : Session} {t : Tables} {u d cost v k : ℕ} {r : Asked} (Z : Workin
             small_g = sound_small_g W.sound;
             small_rhs = sound_small_rhs W.sound;
           };
-          inside = entered_in W (here.0 ∙ Z.cell_is);
+          inside = entered_in W (here.0 ∙ ev);
           stands = stands;
         }))
         here.1
@@ -199,6 +191,6 @@ module _ {s : Session} {t : Tables} {u d cost v k : ℕ} {r : Asked} (Z : Workin
           plan = refl;
           is = B.is ∙ ap (obeyed (hunt_after s t u d cost) (core t)) (sym q) ∙ as_method;
           heap = B.heap;
-          untouched = λ n. absurd (n (touches_at W Z.cell_is here.2));
+          untouched = λ n. absurd (n (touches_at W ev here.2));
           kept = K;
         }

@@ -2,6 +2,7 @@
 #![tactic(auto)]
 
 ghost use Rattle.std.specs.Prelude.{◌≡◌, ◌+◌};
+ghost use Rattle.refusal.specs.Numbers.{number_in};
 ghost use Rattle.plan.specs.Cells.{Size};
 ghost use Rattle.tables.specs.Lent.{tables};
 ghost use Rattle.tables.specs.Sound.{Sound};
@@ -12,40 +13,33 @@ ghost use Rattle.change.specs.Promise.{WorkedIn, Changes};
 use entries;
 use entries::{Asked, Found};
 use plan;
+use refusal::Refusal;
 use session;
-use tables;
+use session::Reply;
+use tables::Session;
 
-// The number of the first rule that a move's new cost breaks, 0 if none.
-fn move_refusal(s: tables::Session, u: usize, d: usize, cost: u8) -> u8
+// Does the move stay in the plan, and is the byte a cost or shut?
+#[tactic(auto, using(decide::proofs::RuledLaws::in_order))]
+fn check_move(s: Session, u: usize, d: usize, cost: u8) -> Result<(), Refusal>
     requires { Size s.width s.height }
-    ensures { MoveRules s u d cost result }
+    ensures { MoveRules s u d cost (number_in result) }
 {
     if s.height * s.width <= u {
-        return 3;
+        return Err(Refusal::Cell);
     }
-    if 3 < d {
-        return 4;
-    }
-    let at = plan::spot_of(s.width, u);
-    if !plan::stays_in(s.width, s.height, at, d) {
-        return 4;
+    if !plan::is_move(s.width, s.height, u, d) {
+        return Err(Refusal::Move);
     }
     if !plan::is_byte(cost) {
-        return 5;
+        return Err(Refusal::Cost);
     }
-    0
-}
-
-// A number and a cost, in 64 bits.
-fn sum_of(far: u32, cost: u8) -> usize
-    ensures { result ≡ far + cost }
-{
-    far as usize + cost as usize
+    Ok(())
 }
 
 // What a changed move asks of the cell v that it enters, where it has parent code k. The plan has the new cost.
+#[tactic(auto, using(crate::proofs::EffectLaws::asking))]
 fn effect_of(
-    s: tables::Session,
+    s: Session,
     plan: &[u8],
     g: &[u32],
     rhs: &[u32],
@@ -59,15 +53,12 @@ fn effect_of(
     requires { Deciding s plan.now g.now rhs.now parent.now v u }
     ensures { Asks s plan.now g.now rhs.now parent.now v k u old new result }
 {
-    let far = g[u];
-    let y = rhs[v];
-    let p = parent[v];
     if v == s.origin {
         return Asked::Keeps;
     }
     if new < old {
-        let sum = sum_of(far, new);
-        if sum < y as usize {
+        let sum = g[u] as usize + new as usize;
+        if sum < rhs[v] as usize {
             return Asked::Takes(
                 v,
                 Found {
@@ -76,22 +67,16 @@ fn effect_of(
                 },
             );
         }
-        return Asked::Keeps;
     }
-    if new == old {
-        return Asked::Keeps;
+    if old < new && parent[v] == k {
+        return Asked::Takes(v, entries::anew(entries::aim_of(s), plan, g, v));
     }
-    if p != k {
-        return Asked::Keeps;
-    }
-    let a = entries::aim_of(s);
-    let f = entries::anew(a, plan, g, v);
-    Asked::Takes(v, f)
+    Asked::Keeps
 }
 
 // Gives the move from cell u in direction d its new cost, and works it in at the cell entered. Returns the queue's count.
 fn work_in(
-    s: tables::Session,
+    s: Session,
     plan: &mut [u8],
     g: &[u32],
     rhs: &mut [u32],
@@ -122,8 +107,9 @@ fn work_in(
 }
 
 // Changes a move in sound tables: for a caller who knows that they are, so that the check is not paid. The promise is that of the call below.
+#[tactic(auto, using(crate::proofs::RefusalLaws::refusing))]
 pub fn change_sound(
-    s: tables::Session,
+    s: Session,
     plan: &mut [u8],
     g: &[u32],
     rhs: &mut [u32],
@@ -135,28 +121,29 @@ pub fn change_sound(
     u: usize,
     d: usize,
     cost: u8,
-) -> session::Reply
+) -> Reply
     requires { Sound s (tables plan.old g.now rhs.old parent.old k1.old k2.old place.old list.old) }
     ensures { Changes s (tables plan.old g.now rhs.old parent.old k1.old k2.old place.old list.old) u d cost result (tables plan.new g.now rhs.new parent.new k1.new k2.new place.new list.new) }
 {
-    let number = move_refusal(s, u, d, cost);
-    if number != 0 {
-        return session::Reply {
+    match check_move(s, u, d, cost) {
+        Ok(()) => {
+            let count = work_in(s, plan, g, rhs, parent, k1, k2, place, list, u, d, cost);
+            Reply {
+                session: Session { count, ..s },
+                answer: Ok(()),
+            }
+        }
+        Err(refusal) => Reply {
             session: s,
-            answer: session::Answer::Refused(number),
-        };
-    }
-    let mut changed = s;
-    changed.count = work_in(s, plan, g, rhs, parent, k1, k2, place, list, u, d, cost);
-    session::Reply {
-        session: changed,
-        answer: session::Answer::Done,
+            answer: Err(refusal),
+        },
     }
 }
 
 // Changes a move: gives cell u's move in direction d a cost, and works that in.
+#[tactic(auto, using(crate::proofs::RefusalLaws::refusing))]
 pub fn change_move(
-    s: tables::Session,
+    s: Session,
     plan: &mut [u8],
     g: &[u32],
     rhs: &mut [u32],
@@ -168,15 +155,14 @@ pub fn change_move(
     u: usize,
     d: usize,
     cost: u8,
-) -> session::Reply
+) -> Reply
     ensures { Changes s (tables plan.old g.now rhs.old parent.old k1.old k2.old place.old list.old) u d cost result (tables plan.new g.now rhs.new parent.new k1.new k2.new place.new list.new) }
 {
-    let refusal = session::table_refusal(s, plan, g, rhs, parent, k1, k2, place, list);
-    if refusal != 0 {
-        return session::Reply {
+    match session::check_tables(s, plan, g, rhs, parent, k1, k2, place, list) {
+        Ok(()) => change_sound(s, plan, g, rhs, parent, k1, k2, place, list, u, d, cost),
+        Err(refusal) => Reply {
             session: s,
-            answer: session::Answer::Refused(refusal),
-        };
+            answer: Err(refusal),
+        },
     }
-    change_sound(s, plan, g, rhs, parent, k1, k2, place, list, u, d, cost)
 }

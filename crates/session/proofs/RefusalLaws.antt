@@ -98,5 +98,5 @@ pub sound_rules : {s : Session} {t : Tables} {rest : ℕ → Type 0} {k : ℕ} �
 sound_rules S r = holds S.plan.size (holds (sound_fits S) (holds S r))
 
 -- Tables that break no rule are sound.
-pub tables_granted : {s : Session} {t : Tables} {k : ℕ} → TableRules s t Passed k → k ≡ 0 → Sound s t
-tables_granted r e = (granted (granted (granted r e).1 e).1 e).0
+pub tables_granted : {s : Session} {t : Tables} → TableRules s t Passed 0 → Sound s t
+tables_granted r = (granted (granted (granted r refl).1 refl).1 refl).0
