@@ -12,7 +12,6 @@ use Rattle.method.specs.Graph.{Hunt}
 use Rattle.method.specs.Tables as method
 use Rattle.method.specs.Session.{move_changed}
 use Rattle.decide.proofs.ChooseLaws.{choose_is, choose_yes, choose_no}
-use Rattle.queue.specs.Queue.{EntryKept}
 use Rattle.plan.specs.Directions.{row_step, column_step}
 use Rattle.plan.specs.Costs.{shut, IsByte, IsCost, with_byte, Obeys}
 use Rattle.plan.specs.Reached.{At}
@@ -21,13 +20,13 @@ use Rattle.plan.proofs.CellLaws.{enters}
 use Rattle.plan.proofs.MoveLaws.{area, sum_long, cost_of}
 use Rattle.plan.proofs.ChangeLaws.{changed_obeys}
 use Rattle.tables.specs.declared.Session.{Session}
-use Rattle.tables.specs.Lent.{Tables, tables, frame, cells, floor, graph, core}
+use Rattle.tables.specs.declared.Ahead.{Ahead}
+use Rattle.tables.specs.Lent.{Tables, lent, frame, cells, floor, graph, core}
 use Rattle.entries.specs.declared.Aim.{Aim}
-use Rattle.entries.specs.declared.Found.{Found}
 use Rattle.entries.specs.declared.Asked.{Asked}
-use Rattle.entries.specs.declared.Asked.TheVariants.{Keeps, Takes}
+use Rattle.std.specs.Prelude.{Option, Some, None}
 use Rattle.entries.specs.Aims.{AimOf, hunt, most_g, most_rhs}
-use Rattle.entries.specs.Became.{obeyed, Taking, Taken}
+use Rattle.entries.specs.Became.{obeyed, Taking, Taken, KeptIn}
 use Rattle.entries.proofs.AimLaws.{ready_of, became_of}
 use Rattle.entries.proofs.SmallLaws.{sound_small_g, sound_small_rhs, sound_held}
 use Rattle.entries.proofs.FoundLaws.{taking, anew_small}
@@ -36,9 +35,9 @@ use Rattle.change.specs.Effects.{Touches, Deciding, Asks, keeps, falls, rises}
 use Rattle.change.specs.Promise.{with_plan, replanned, entered_cell, back_code, old_cost, method_change, WorkedIn}
 
 -- what takes nothing keeps
-pub keeps_unless : {r : Asked} → ((u : ℕ) (f : Found) → r ≡ Takes u f → ⊥) → r ≡ Keeps
-keeps_unless {r = Keeps} n = refl
-keeps_unless {r = Takes u f} n = absurd (n u f refl)
+pub none_unless : {r : Option Asked} → ((x : Asked) → r ≡ Some x → ⊥) → r ≡ None
+none_unless {r = None} n = refl
+none_unless {r = Some x} n = absurd (n x refl)
 
 -- ---- the method's change, case by case
 
@@ -74,13 +73,13 @@ byte_le (inr e) = omega arith
 abbrev hunt_after : Session → Tables → ℕ → ℕ → ℕ → Hunt
 hunt_after s t u d cost = record { graph = graph s (with_plan t (replanned s t u d cost)); hunter = s.origin; target = s.goal; km = s.km }
 
-abbrev Asking : Session → Tables → ℕ → ℕ → ℕ → ℕ → Asked → Type 0
+abbrev Asking : Session → Tables → ℕ → ℕ → ℕ → ℕ → Option Asked → Type 0
 Asking s t u d cost v r = Asks s (replanned s t u d cost) t.g t.rhs t.parent v (back_code d) u (old_cost s t u d) cost r
 
 -- What is asked concerns v, leaves room for a sum, and is asked only of a cell that is touched.
-abbrev Settled : Session → Tables → ℕ → ℕ → ℕ → ℕ → Asked → Type 0
-Settled s t u d cost v Keeps = Unit {0}
-Settled s t u d cost v (Takes w f) = (w ≡ v) × ((f.rhs ≡ infinite) ⊎ (f.rhs ≤ most_rhs)) × Touches s.origin t.g t.rhs t.parent v (back_code d) u (old_cost s t u d) cost
+abbrev Settled : Session → Tables → ℕ → ℕ → ℕ → ℕ → Option Asked → Type 0
+Settled s t u d cost v None = Unit {0}
+Settled s t u d cost v (Some x) = (x.cell ≡ v) × ((x.found.rhs ≡ infinite) ⊎ (x.found.rhs ≤ most_rhs)) × Touches s.origin t.g t.rhs t.parent v (back_code d) u (old_cost s t u d) cost
 
 module _ {s : Session} {t : Tables} {u d cost : ℕ} (W : Workable s t u d cost) where
   -- ---- before the change
@@ -112,10 +111,10 @@ module _ {s : Session} {t : Tables} {u d cost : ℕ} (W : Workable s t u d cost)
     touches_at = subst (λ x. Touches s.origin t.g t.rhs t.parent x (back_code d) u (old_cost s t u d) cost) ev
 
     -- the method does what is asked
-    asked_is : {r : Asked} → Asking s t u d cost v r → obeyed (hunt_after s t u d cost) (core t) r ≡ method_change s t u d cost
+    asked_is : {r : Option Asked} → Asking s t u d cost v r → obeyed (hunt_after s t u d cost) (core t) r ≡ method_change s t u d cost
     asked_is A = sym (at A) ∙ ap (λ x. move_changed (hunt_after s t u d cost) (core t) x (back_code d) u (old_cost s t u d) cost) ev
       where
-        at : {r : Asked} → Asking s t u d cost v r → move_changed (hunt_after s t u d cost) (core t) v (back_code d) u (old_cost s t u d) cost ≡ obeyed (hunt_after s t u d cost) (core t) r
+        at : {r : Option Asked} → Asking s t u d cost v r → move_changed (hunt_after s t u d cost) (core t) v (back_code d) u (old_cost s t u d) cost ≡ obeyed (hunt_after s t u d cost) (core t) r
         at (keeps n) = change_kept (hunt_after s t u d cost) (core t) v (back_code d) u (old_cost s t u d) cost n
         at (falls n f l) = change_falls (hunt_after s t u d cost) (core t) v (back_code d) u (old_cost s t u d) cost n f l
         at (rises n f l) = change_rises (hunt_after s t u d cost) (core t) v (back_code d) u (old_cost s t u d) cost n f l
@@ -126,7 +125,7 @@ module _ {s : Session} {t : Tables} {u d cost : ℕ} (W : Workable s t u d cost)
     sum_small l o (inl x) (inr y) = absurd (omega arith)
     sum_small l o (inr x) y = inr (omega (arith, o.1))
 
-    settled : {r : Asked} → Asking s t u d cost v r → Settled s t u d cost v r
+    settled : {r : Option Asked} → Asking s t u d cost v r → Settled s t u d cost v r
     settled (keeps n) = tt
     settled (falls n f l) =
         let c = cost_of W.byte (λ x. omega (arith, f, byte_le (W.sound.plan.bytes u d W.cell_in W.direction))) in
@@ -134,30 +133,30 @@ module _ {s : Session} {t : Tables} {u d cost : ℕ} (W : Workable s t u d cost)
     settled (rises n f l) = (refl, anew_small (frame s) (replanned s t u d cost) obeys_after t.g (sound_small_g W.sound) v, (n, inr (f, l)))
 
 -- A change that is worked in: no rule refuses it, v is the cell entered, k the move's code there, and r what it asks.
-module _ {s : Session} {t : Tables} {u d cost v k : ℕ} {r : Asked} (W : Workable s t u d cost) (ev : v ≡ entered_cell s u d) (ek : k ≡ back_code d)
-    (A : Asks s (replanned s t u d cost) t.g t.rhs t.parent v k u (old_cost s t u d) cost r) where
-  asks : Asking s t u d cost v r
-  asks = subst (λ x. Asks s (replanned s t u d cost) t.g t.rhs t.parent v x u (old_cost s t u d) cost r) ek A
+module _ {s : Session} (plan g : List ℕ) (t : Ahead) {u d cost v k : ℕ} {r : Option Asked} (W : Workable s (lent plan g t) u d cost) (ev : v ≡ entered_cell s u d) (ek : k ≡ back_code d)
+    (A : Asks s (replanned s (lent plan g t) u d cost) g t.rhs.now t.parent.now v k u (old_cost s (lent plan g t) u d) cost r) where
+  asks : Asking s (lent plan g t) u d cost v r
+  asks = subst (λ x. Asks s (replanned s (lent plan g t) u d cost) g t.rhs.now t.parent.now v x u (old_cost s (lent plan g t) u d) cost r) ek A
 
-  as_method : obeyed (hunt_after s t u d cost) (core t) r ≡ method_change s t u d cost
+  as_method : obeyed (hunt_after s (lent plan g t) u d cost) (core (lent plan g t)) r ≡ method_change s (lent plan g t) u d cost
   as_method = asked_is W ev asks
 
   -- the cell keeps its numbers: only the byte changed
-  pub kept_worked : r ≡ Keeps → WorkedIn s t u d cost s.count (with_plan t (replanned s t u d cost))
+  pub kept_worked : r ≡ None → WorkedIn s (lent plan g t) u d cost s.count (lent (replanned s (lent plan g t) u d cost) g t)
   kept_worked q = record {
     plan = refl;
-    is = ap (obeyed (hunt_after s t u d cost) (core t)) (sym q) ∙ as_method;
+    is = ap (obeyed (hunt_after s (lent plan g t) u d cost) (core (lent plan g t))) (sym q) ∙ as_method;
     heap = W.sound.heap;
     untouched = λ _. (refl, refl);
     kept = λ _ _ _. (refl, refl, refl);
   }
 
-  module _ {w : ℕ} {f : Found} (q : r ≡ Takes w f) where
-    here : Settled s t u d cost v (Takes w f)
-    here = subst (Settled s t u d cost v) q (settled W ev asks)
+  module _ {x : Asked} (q : r ≡ Some x) where
+    here : Settled s (lent plan g t) u d cost v (Some x)
+    here = subst (Settled s (lent plan g t) u d cost v) q (settled W ev asks)
 
     -- it can take what is asked
-    pub asked_taking : {a : Aim} {at : Spot} → AimOf s a → At s.width w at → Taking a s.count w at f t.g t.rhs t.parent t.k1 t.k2 t.place t.list
+    pub asked_taking : {a : Aim} {at : Spot} → AimOf s a → At s.width x.cell at → Taking a s.count x.cell at x.found g t
     asked_taking {a} O stands =
         taking
         (ready_of O
@@ -170,7 +169,7 @@ module _ {s : Session} {t : Tables} {u d cost v k : ℕ} {r : Asked} (W : Workab
               target_at = O.target_at;
               km_le = omega (arith, W.sound.numbers.km_le, W.sound.numbers.searches_le);
             };
-            held = sound_held W.sound (replanned s t u d cost) a.row a.column;
+            held = sound_held W.sound (replanned s (lent plan g t) u d cost) a.target_at;
             small_g = sound_small_g W.sound;
             small_rhs = sound_small_rhs W.sound;
           };
@@ -180,16 +179,12 @@ module _ {s : Session} {t : Tables} {u d cost v k : ℕ} {r : Asked} (W : Workab
         here.1
 
     -- and took it
-    pub taken_worked : {a : Aim} {count : ℕ} {rhs' parent' k1' k2' place' list' : List ℕ} → AimOf s a
-        → Taken a w f t.g t.rhs t.parent t.k1 t.k2 t.place t.list count rhs' parent' k1' k2' place' list'
-        → EntryKept s.count t.k1 t.k2 t.place t.list count k1' k2' place' list'
-        → WorkedIn s t u d cost count (tables (replanned s t u d cost) t.g rhs' parent' k1' k2' place' list')
-    taken_worked {a} {count} {rhs'} {parent'} {k1'} {k2'} {place'} {list'} O T K =
-        let plan = replanned s t u d cost in
-        let B = became_of {t = tables plan t.g rhs' parent' k1' k2' place' list'} (λ x. obeyed (hunt x plan) (core t) (Takes w f)) O (T.became plan) in
+    pub taken_worked : {a : Aim} {count : ℕ} {t' : Ahead} → AimOf s a → Taken a x.cell x.found g t count t' → KeptIn s.count t count t' → WorkedIn s (lent plan g t) u d cost count (lent (replanned s (lent plan g t) u d cost) g t')
+    taken_worked {a} {count} {t'} O T K =
+        let B = became_of {t = lent (replanned s (lent plan g t) u d cost) g t'} (λ y. obeyed (hunt y (replanned s (lent plan g t) u d cost)) (core (lent plan g t)) (Some x)) O (T.became (replanned s (lent plan g t) u d cost)) in
         record {
           plan = refl;
-          is = B.is ∙ ap (obeyed (hunt_after s t u d cost) (core t)) (sym q) ∙ as_method;
+          is = B.is ∙ ap (obeyed (hunt_after s (lent plan g t) u d cost) (core (lent plan g t))) (sym q) ∙ as_method;
           heap = B.heap;
           untouched = λ n. absurd (n (touches_at W ev here.2));
           kept = K;

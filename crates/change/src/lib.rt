@@ -4,7 +4,7 @@
 ghost use Rattle.std.specs.Prelude.{◌≡◌, ◌+◌};
 ghost use Rattle.refusal.specs.Numbers.{number_in};
 ghost use Rattle.plan.specs.Cells.{Size};
-ghost use Rattle.tables.specs.Lent.{tables};
+ghost use Rattle.tables.specs.Lent.{lent, SameTables};
 ghost use Rattle.tables.specs.Sound.{Sound};
 ghost use Rattle.change.specs.Refusals.{MoveRules, Workable};
 ghost use Rattle.change.specs.Effects.{Deciding, Asks};
@@ -16,7 +16,7 @@ use plan;
 use refusal::Refusal;
 use session;
 use session::Reply;
-use tables::Session;
+use tables::{Ahead, Session};
 
 // Does the move stay in the plan, and is the byte a cost or shut?
 #[tactic(auto, using(decide::proofs::RuledLaws::in_order))]
@@ -42,36 +42,38 @@ fn effect_of(
     s: Session,
     plan: &[u8],
     g: &[u32],
-    rhs: &[u32],
-    parent: &[u8],
+    ahead: &Ahead,
     v: usize,
     k: u8,
     u: usize,
     old: u8,
     new: u8,
-) -> Asked
-    requires { Deciding s plan.now g.now rhs.now parent.now v u }
-    ensures { Asks s plan.now g.now rhs.now parent.now v k u old new result }
+) -> Option<Asked>
+    requires { Deciding s plan.now g.now ahead.now.rhs.now ahead.now.parent.now v u }
+    ensures { Asks s plan.now g.now ahead.now.rhs.now ahead.now.parent.now v k u old new result }
 {
     if v == s.origin {
-        return Asked::Keeps;
+        return None;
     }
     if new < old {
         let sum = g[u] as usize + new as usize;
-        if sum < rhs[v] as usize {
-            return Asked::Takes(
-                v,
-                Found {
+        if sum < ahead.rhs[v] as usize {
+            return Some(Asked {
+                cell: v,
+                found: Found {
                     rhs: sum as u32,
                     parent: k,
                 },
-            );
+            });
         }
     }
-    if old < new && parent[v] == k {
-        return Asked::Takes(v, entries::anew(entries::aim_of(s), plan, g, v));
+    if old < new && ahead.parent[v] == k {
+        return Some(Asked {
+            cell: v,
+            found: entries::anew(entries::aim_of(s), plan, g, v),
+        });
     }
-    Asked::Keeps
+    None
 }
 
 // Gives the move from cell u in direction d its new cost, and works it in at the cell entered. Returns the queue's count.
@@ -79,31 +81,26 @@ fn work_in(
     s: Session,
     plan: &mut [u8],
     g: &[u32],
-    rhs: &mut [u32],
-    parent: &mut [u8],
-    k1: &mut [u32],
-    k2: &mut [u32],
-    place: &mut [u16],
-    list: &mut [u16],
+    ahead: &mut Ahead,
     u: usize,
     d: usize,
     cost: u8,
 ) -> usize
-    requires { Workable s (tables plan.old g.now rhs.old parent.old k1.old k2.old place.old list.old) u d cost }
-    ensures { WorkedIn s (tables plan.old g.now rhs.old parent.old k1.old k2.old place.old list.old) u d cost result (tables plan.new g.now rhs.new parent.new k1.new k2.new place.new list.new) }
+    requires { Workable s (lent plan.old g.now ahead.old) u d cost }
+    ensures worked_in { WorkedIn s (lent plan.old g.now ahead.old) u d cost result (lent plan.new g.now ahead.new) }
+    ensures same_tables { SameTables ahead.old ahead.new }
 {
     let v = plan::entered(s.width, u, d);
     let k = plan::back_code(d);
     let i = 4 * u + d;
     let old = plan[i];
     plan[i] = cost;
-    let asked = effect_of(s, plan, g, rhs, parent, v, k, u, old, cost);
-    let Asked::Takes(cell, f) = asked else {
+    let Some(asked) = effect_of(s, plan, g, ahead, v, k, u, old, cost) else {
         return s.count;
     };
     let a = entries::aim_of(s);
-    let at = plan::spot_of(s.width, cell);
-    entries::take(a, g, rhs, parent, k1, k2, place, list, s.count, cell, at, f)
+    let at = plan::spot_of(s.width, asked.cell);
+    entries::take(a, g, ahead, s.count, asked.cell, at, asked.found)
 }
 
 // Changes a move in sound tables: for a caller who knows that they are, so that the check is not paid. The promise is that of the call below.
@@ -112,22 +109,18 @@ pub fn change_sound(
     s: Session,
     plan: &mut [u8],
     g: &[u32],
-    rhs: &mut [u32],
-    parent: &mut [u8],
-    k1: &mut [u32],
-    k2: &mut [u32],
-    place: &mut [u16],
-    list: &mut [u16],
+    ahead: &mut Ahead,
     u: usize,
     d: usize,
     cost: u8,
 ) -> Reply
-    requires { Sound s (tables plan.old g.now rhs.old parent.old k1.old k2.old place.old list.old) }
-    ensures { Changes s (tables plan.old g.now rhs.old parent.old k1.old k2.old place.old list.old) u d cost result (tables plan.new g.now rhs.new parent.new k1.new k2.new place.new list.new) }
+    requires { Sound s (lent plan.old g.now ahead.old) }
+    ensures changes { Changes s (lent plan.old g.now ahead.old) u d cost result (lent plan.new g.now ahead.new) }
+    ensures same_tables { SameTables ahead.old ahead.new }
 {
     match check_move(s, u, d, cost) {
         Ok(()) => {
-            let count = work_in(s, plan, g, rhs, parent, k1, k2, place, list, u, d, cost);
+            let count = work_in(s, plan, g, ahead, u, d, cost);
             Reply {
                 session: Session { count, ..s },
                 answer: Ok(()),
@@ -146,20 +139,16 @@ pub fn change_move(
     s: Session,
     plan: &mut [u8],
     g: &[u32],
-    rhs: &mut [u32],
-    parent: &mut [u8],
-    k1: &mut [u32],
-    k2: &mut [u32],
-    place: &mut [u16],
-    list: &mut [u16],
+    ahead: &mut Ahead,
     u: usize,
     d: usize,
     cost: u8,
 ) -> Reply
-    ensures { Changes s (tables plan.old g.now rhs.old parent.old k1.old k2.old place.old list.old) u d cost result (tables plan.new g.now rhs.new parent.new k1.new k2.new place.new list.new) }
+    ensures changes { Changes s (lent plan.old g.now ahead.old) u d cost result (lent plan.new g.now ahead.new) }
+    ensures same_tables { SameTables ahead.old ahead.new }
 {
-    match session::check_tables(s, plan, g, rhs, parent, k1, k2, place, list) {
-        Ok(()) => change_sound(s, plan, g, rhs, parent, k1, k2, place, list, u, d, cost),
+    match session::check_tables(s, plan, g, ahead) {
+        Ok(()) => change_sound(s, plan, g, ahead, u, d, cost),
         Err(refusal) => Reply {
             session: s,
             answer: Err(refusal),

@@ -6,5 +6,5 @@ use Rattle.change.proofs.change_sound.Goals as goal
 pub work_in-count-requires : goal.work_in-count-requires
 work_in-count-requires c = workable c.requires c.in-Ok.ensures
 
-pub returns-in-Ok : goal.returns-in-Ok
-returns-in-Ok c = done_reply (sound_rules c.requires c.in-Ok.ensures) c.work_in-count.ensures
+pub returns-in-Ok-clause-changes : goal.returns-in-Ok-clause-changes
+returns-in-Ok-clause-changes c = done_reply (sound_rules c.requires c.in-Ok.ensures) c.work_in-count.ensures.worked_in
