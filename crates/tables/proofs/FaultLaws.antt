@@ -1,8 +1,7 @@
 -- The check stops at one place only, and nowhere exactly if the tables are sound.
-use mathlib.Core.Path.{◌≡◌, refl, sym, ap, subst, ◌∙◌}
-use mathlib.Core.Bool.{Bool, true, false, not}
+use mathlib.Core.Path.{◌≡◌, refl, sym, ap, subst}
+use mathlib.Core.Bool.{Bool, true, false, not, false≢true}
 use Rattle.std.specs.Option.{is_some}
-use Rattle.std.specs.Prelude.{Option, Some, None}
 use Prim.Native.Nat.{ℕ, ◌<◌}
 use native.Mathlib.Omega.{arith}
 use native.Mathlib.Decide.{dec_lt}
@@ -12,9 +11,11 @@ use Rattle.plan.specs.Cells.{Size}
 use Rattle.tables.specs.declared.Session.{Session}
 use Rattle.tables.specs.declared.Fault.{Fault}
 use Rattle.tables.specs.declared.Fault.TheVariants.{InCell, InMove}
+use Rattle.std.proofs.Common.{Option, Some, None}
 use Rattle.tables.specs.Lent.{Tables, Fits, cells}
 use Rattle.tables.specs.Sound.{Sound}
-use Rattle.tables.specs.Rules.{AloneIn, WayIn, RulesBefore, FirstFault, Words, nowhere, in_record, in_cell, in_move}
+use Rattle.tables.specs.Rules.{AloneIn, WayIn, RulesBefore, FirstFault, nowhere, in_record, in_cell, in_move}
+use Rattle.tables.specs.Asked.{Words}
 use Rattle.tables.proofs.SoundLaws.{sound_of_rules, numbers_rule, cell_rules}
 
 -- two numbers that fail a rule which all before them obey are one
@@ -71,19 +72,8 @@ module _ (s : Session) (t : Tables) (z : Size s.width s.height) (fit : Fits (cel
   sound_nowhere S = nowhere (record { numbers = numbers_rule s t z fit rhs32 k32 S; each_cell = cell_rules s t z fit rhs32 k32 S })
 
   -- Yes where the check stops nowhere, no where it stops somewhere.
-  module _ {f : Option Fault} (F : FirstFault s t f) where
-    pub sound_there : f ≡ None → Decides true (Sound s t)
-    sound_there e = let B = all_rules F e in decides_yes (sound_of_rules s t z fit rhs32 k32 B.numbers B.each_cell)
-
-    pub unsound_there : (f ≡ None → ⊥) → Decides false (Sound s t)
-    unsound_there n = decides_no (λ S. n (one_first_fault F (sound_nowhere S)))
-
-    -- Sound exactly where none is.
-    pub sound_if_none : (b : Bool) → is_some f ≡ not b → Decides b (Sound s t)
-    sound_if_none b e = by_fault f refl b e
-      where
-        by_fault : (g : Option Fault) → f ≡ g → (b : Bool) → is_some g ≡ not b → Decides b (Sound s t)
-        by_fault None i true e = sound_there i
-        by_fault None i false e = let z : ◌≡◌ {A = ℕ} 0 1 = cc in absurd (omega arith)
-        by_fault (Some x) i true e = let z : ◌≡◌ {A = ℕ} 0 1 = cc in absurd (omega arith)
-        by_fault (Some x) i false e = unsound_there (λ n. let y : Some x ≡ None = sym i ∙ n in let z : ◌≡◌ {A = ℕ} 0 1 = cc in absurd (omega arith))
+  pub sound_if_none : {f : Option Fault} {b : Bool} → FirstFault s t f → is_some f ≡ not b → Decides b (Sound s t)
+  sound_if_none {f = None} {b = true} F e = let B = all_rules F refl in decides_yes (sound_of_rules s t z fit rhs32 k32 B.numbers B.each_cell)
+  sound_if_none {f = None} {b = false} F e = absurd (false≢true e)
+  sound_if_none {f = Some x} {b = true} F e = absurd (false≢true (sym e))
+  sound_if_none {f = Some x} {b = false} F e = decides_no (λ S. let q = one_first_fault F (sound_nowhere S) in let y : ◌≡◌ {A = ℕ} 0 1 = cc in absurd (omega arith))

@@ -26,7 +26,8 @@ use Rattle.plan.proofs.MoveLaws.{area, cost_of, not_a_cost}
 use Rattle.tables.specs.declared.Session.{Session}
 use Rattle.tables.specs.Lent.{Tables, Fits, cells, floor, graph, session, core}
 use Rattle.tables.specs.Sound.{Sound}
-use Rattle.tables.specs.Rules.{most, Numbers, MoveRule, WayRule, OwnRule, WaitingRule, CellRules, Words}
+use Rattle.tables.specs.Asked.{Words}
+use Rattle.tables.specs.Rules.{most, Numbers, MoveRule, WayRule, OwnRule, WaitingRule, CellRules}
 
 module _ (s : Session) (t : Tables) (z : Size s.width s.height) (fit : Fits (cells s) t) (rhs32 : Words t.rhs) (k32 : Words t.k2) where
   p : Plan

@@ -1,6 +1,6 @@
 -- The check's rules as the code tests them, return by return.
 use mathlib.Core.Path.{◌≡◌, sym, ◌∙◌}
-use mathlib.Core.Bool.{Bool, false, not}
+use mathlib.Core.Bool.{Bool, not}
 use mathlib.Core.Logic.{inl, inr, ⊎_elim, ◌≢◌}
 use mathlib.Core.List.{List}
 use Prim.Native.Nat.{ℕ, ◌+◌, ◌*◌, ◌≤◌, ◌<◌, min}
@@ -9,17 +9,21 @@ use native.Mathlib.Decide.{ℕ_discrete}
 use lib.Dec.{eqb, leb, ltb}
 use lib.ListN.{get_or}
 use Rattle.decide.specs.Decides.{Decides}
-use Rattle.decide.proofs.DecideLaws.{decides_no, decides_ne, decides_le, decides_lt, decides_as}
+use Rattle.decide.proofs.DecideLaws.{decides_eq, decides_ne, decides_le, decides_lt, decides_as}
 use Rattle.method.specs.Tables.{NotAbove}
 use Rattle.queue.specs.Rules.{EntryRule, AbsentRule, QueuedRule}
-use Rattle.plan.specs.Directions.{opposite}
+use Rattle.method.specs.Numbers.{most_cells}
+use Rattle.plan.specs.Directions.{opposite, row_step, column_step}
 use Rattle.plan.specs.Cells.{Stays, entered, estimate}
 use Rattle.plan.specs.Costs.{plan_of, shut, IsCost, IsByte}
 use Rattle.plan.specs.Reached.{At, between}
 use Rattle.plan.specs.declared.Spot.{Spot}
-use Rattle.plan.proofs.CellLaws.{stands_row, stands_column}
+use Rattle.plan.proofs.CellLaws.{stands_row, stands_column, entered_sum, enters}
+use Rattle.plan.proofs.MoveLaws.{area}
 use Rattle.tables.specs.declared.Session.{Session}
+use Rattle.tables.specs.declared.Ahead.{Ahead}
 use Rattle.tables.specs.Lent.{cells}
+use Rattle.tables.specs.Asked.{WayAsked}
 use Rattle.tables.specs.Rules.{SumRule, MoveRule, WayRule, OwnRule, WaitingRule, AloneRule, most}
 
 -- two keys, told by their first numbers or by their second
@@ -43,8 +47,8 @@ no_byte (inr e) n m = m e
 
 -- a cell and direction
 module _ {width height u d : ℕ} (bytes rhs parent : List ℕ) (hunter x : ℕ) {b : ℕ} (eb : b ≡ get_or bytes (4 * u + d) 0) where
-  pub way_open_outward : (Stays width height u d → ⊥) → b ≢ shut → Decides false (WayRule (plan_of width height bytes) rhs parent hunter x u d)
-  way_open_outward off n = decides_no (λ W. n (eb ∙ (W.leaves off).0))
+  pub way_open_outward : (Stays width height u d → ⊥) → b ≢ shut → Decides (eqb b shut) (WayRule (plan_of width height bytes) rhs parent hunter x u d)
+  way_open_outward off n = decides_eq b shut (λ e. absurd (n e)) (λ W. eb ∙ (W.leaves off).0)
 
   pub way_outward : (Stays width height u d → ⊥) → b ≡ shut → Decides (not (eqb (get_or parent u 0) (d + 1))) (WayRule (plan_of width height bytes) rhs parent hunter x u d)
   way_outward off e =
@@ -58,6 +62,14 @@ module _ {width height u d : ℕ} (bytes rhs parent : List ℕ) (hunter x : ℕ)
       decides_as D
       (λ M. record { leaves = λ off. absurd (off m); stays_in = λ _. rw (← ev, ← eb) M })
       (λ W. rw (← ev, ← eb) at (W.stays_in m))
+
+-- the cell that a move enters can be computed, and is in the plan
+module _ {width height u d : ℕ} {plan : List ℕ} {t : Ahead} {at : Spot} (W : WayAsked width height plan t u at d) (stays : Stays width height u d) where
+  pub entered_asks : (width ≤ 64) × (u < most_cells) × (width + 1 ≤ u + row_step d * width + column_step d)
+  entered_asks = (W.size.narrow, omega (arith, W.inside, area W.size), omega (arith, entered_sum width u d W.size.wide stays.north stays.west))
+
+  pub entered_in : {v : ℕ} → v ≡ entered width u d → v < height * width
+  entered_in e = omega (arith, e, (enters W.size.wide stays).inside)
 
 -- the estimate of two cells is that of their spots
 pub estimate_at : {width s t : ℕ} {a b : Spot} → At width s a → At width t b → between a b ≡ estimate width s t

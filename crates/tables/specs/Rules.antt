@@ -89,7 +89,3 @@ pub data FirstFault (s : Session) (t : Tables) : Option Fault → Type 0 where
   in_cell : {u : ℕ} → u < cells s → RulesBefore s t u → (AloneIn s t u → ⊥) → FirstFault s t (Some (InCell u))
   -- cell u by itself holds, and so do its moves before direction d; the move in direction d fails
   in_move : {u d : ℕ} → u < cells s → d < 4 → RulesBefore s t u → AloneIn s t u → ((e : ℕ) → e < d → WayIn s t u e) → (WayIn s t u d → ⊥) → FirstFault s t (Some (InMove u d))
-
--- Each number of a table is one of 32 bits.
-abbrev pub Words : List ℕ → Type 0
-Words l = (u : ℕ) → get_or l u 0 < 4294967296

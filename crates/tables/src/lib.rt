@@ -5,13 +5,12 @@ ghost use Rattle.std.specs.Prelude.{◌≡◌, ◌⊎◌, ◌+◌, ◌*◌, ◌�
 ghost use Rattle.decide.specs.Decides.{Decides};
 ghost use Rattle.method.specs.Numbers.{infinite, most_estimate};
 ghost use Rattle.method.specs.Tables.{NotAbove};
-ghost use Rattle.queue.specs.Rules.{Lengths};
 ghost use Rattle.plan.specs.Cells.{Size};
 ghost use Rattle.plan.specs.Costs.{plan_of};
 ghost use Rattle.tables.specs.Lent.{lent, cells, Fits};
 ghost use Rattle.tables.specs.Sound.{Sound};
-ghost use Rattle.tables.specs.Rules.{Numbers, SumRule, MoveRule, WayRule, OwnRule, WaitingRule, AloneRule, FirstFault, Words};
-ghost use Rattle.tables.specs.Asked.{CellAsked, AloneAsked, WayAsked};
+ghost use Rattle.tables.specs.Rules.{Numbers, SumRule, MoveRule, WayRule, OwnRule, FirstFault};
+ghost use Rattle.tables.specs.Asked.{CellAsked, QueueFits, AloneAsked, WayAsked, WaitingLent, AloneLent, Words};
 
 use plan;
 use plan::Spot;
@@ -94,26 +93,18 @@ fn sum_holds(hunter: usize, v: usize, r: u32, p: u8, sum: usize, k: u8) -> bool
     if p == k {
         return own == sum;
     }
-    if own <= sum {
-        return true;
-    }
-    v == hunter
+    own <= sum || v == hunter
 }
 
 // Is b a cost or shut, and does cell v agree with the move of byte b into it from a cell whose g is x? The sum is taken in 64 bits, so that no content wraps and infinite needs no test.
 fn move_holds(hunter: usize, b: u8, x: u32, v: usize, r: u32, p: u8, k: u8) -> bool
     ensures { Decides result (MoveRule hunter b x v r p k) }
 {
-    if b <= plan::MOST_COST {
-        if b == 0 {
-            return false;
-        }
-        return sum_holds(hunter, v, r, p, x as usize + b as usize, k);
+    match b {
+        1..=plan::MOST_COST => sum_holds(hunter, v, r, p, x as usize + b as usize, k),
+        plan::SHUT => p != k,
+        _ => false,
     }
-    if b != plan::SHUT {
-        return false;
-    }
-    p != k
 }
 
 // Does the move from cell u, whose g is x, in direction d agree with the plan's edge, or else with the cell that it enters?
@@ -128,21 +119,23 @@ fn way_holds(
     at: Spot,
     d: usize,
 ) -> bool
-    requires { WayAsked width height plan.now ahead.now.rhs.now ahead.now.parent.now u at d }
+    requires { WayAsked width height plan.now ahead.now u at d }
     ensures { Decides result (WayRule (plan_of width height plan.now) ahead.now.rhs.now ahead.now.parent.now hunter x u d) }
 {
     let b = plan[4 * u + d];
     if !plan::stays_in(width, height, at, d) {
-        if b != plan::SHUT {
-            return false;
-        }
-        let p = ahead.parent[u];
-        return p as usize != d + 1;
+        return b == plan::SHUT && ahead.parent[u] as usize != d + 1;
     }
     let v = plan::entered(width, u, d);
-    let r = ahead.rhs[v];
-    let p = ahead.parent[v];
-    move_holds(hunter, b, x, v, r, p, plan::back_code(d))
+    move_holds(
+        hunter,
+        b,
+        x,
+        v,
+        ahead.rhs[v],
+        ahead.parent[v],
+        plan::back_code(d),
+    )
 }
 
 // Is x infinite or within the bound?
@@ -160,18 +153,13 @@ fn own_holds(bound: u32, hunter: usize, s: usize, g: u32, r: u32, p: u8) -> bool
         return false;
     }
     if s == hunter {
-        if bound < r {
-            return false;
-        }
-        return p == 0;
+        return r <= bound && p == 0;
     }
-    if p == 0 {
-        return r == INFINITE;
+    match p {
+        0 => r == INFINITE,
+        1..=4 => r != INFINITE,
+        _ => false,
     }
-    if 4 < p {
-        return false;
-    }
-    r != INFINITE
 }
 
 // Is the stored key (a, b) not above the calculated one? e is the estimate to the target.
@@ -182,52 +170,48 @@ fn key_holds(a: u32, b: u32, g: u32, r: u32, e: usize, km: u32) -> bool
     let m = g.min(r);
     let first = m as usize + e + km as usize;
     let stored = a as usize;
-    if stored != first {
-        return stored < first;
-    }
-    b <= m
+    stored < first || stored == first && b <= m
 }
 
 // Is cell u, whose g x and rhs y differ, queued under a stored key that is not above the calculated one? It stands at `at`, the search's target at `aim`.
 fn waiting_holds(s: Session, ahead: &Ahead, x: u32, y: u32, u: usize, at: Spot, aim: Spot) -> bool
     requires cell_asked { CellAsked s u at aim }
-    requires lengths { Lengths (cells s) ahead.now.k1.now ahead.now.k2.now ahead.now.place.now ahead.now.list.now }
-    ensures { Decides result (WaitingRule s ahead.now.k1.now ahead.now.k2.now ahead.now.place.now ahead.now.list.now x y u) }
+    requires lengths { QueueFits (cells s) ahead.now }
+    ensures { Decides result (WaitingLent s ahead.now x y u) }
 {
-    if !queue::queued_holds(&ahead.place, &ahead.list, s.count, u) {
-        return false;
-    }
-    let a = ahead.k1[u];
-    let b = ahead.k2[u];
-    let e = plan::estimate(at, aim);
-    key_holds(a, b, x, y, e, s.km)
+    let place = &*ahead.place;
+    let list = &*ahead.list;
+    queue::queued_holds(place, list, s.count, u)
+        && key_holds(
+            ahead.k1[u],
+            ahead.k2[u],
+            x,
+            y,
+            plan::estimate(at, aim),
+            s.km,
+        )
 }
 
 // Does cell u, which stands at `at`, obey its own rules and the queue's, and does place u of the list? It is queued, and has a key to compare, exactly if g and rhs differ.
 fn alone_holds(s: Session, g: &[u32], ahead: &Ahead, u: usize, at: Spot, aim: Spot) -> bool
     requires { AloneAsked s g.now ahead.now u at aim }
-    ensures { Decides result (AloneRule s g.now ahead.now.rhs.now ahead.now.parent.now ahead.now.k1.now ahead.now.k2.now ahead.now.place.now ahead.now.list.now u) }
+    ensures { Decides result (AloneLent s g.now ahead.now u) }
 {
-    if !queue::entry_holds(
-        s.width,
-        &ahead.k1,
-        &ahead.k2,
-        &ahead.place,
-        &ahead.list,
-        s.count,
-        u,
-    ) {
+    let k1 = &*ahead.k1;
+    let k2 = &*ahead.k2;
+    let place = &*ahead.place;
+    let list = &*ahead.list;
+    if !queue::entry_holds(s.width, k1, k2, place, list, s.count, u) {
         return false;
     }
     let x = g[u];
     let y = ahead.rhs[u];
-    let p = ahead.parent[u];
     let bound = GROWTH * s.searches;
-    if !own_holds(bound, s.origin, u, x, y, p) {
+    if !own_holds(bound, s.origin, u, x, y, ahead.parent[u]) {
         return false;
     }
     if x == y {
-        return queue::absent_holds(&ahead.k1, &ahead.k2, &ahead.place, u);
+        return queue::absent_holds(k1, k2, place, u);
     }
     waiting_holds(s, ahead, x, y, u, at, aim)
 }
@@ -270,9 +254,9 @@ pub fn first_fault(s: Session, plan: &[u8], g: &[u32], ahead: &Ahead) -> Option<
     fault
 }
 
-// Each number of a table of 32 bits is one of 32 bits: what the type of a table says, told of a table that stands in a struct.
-fn has_words(table: &[u32])
-    ensures { Words table.now }
+// Each number of a table fits its 32 bits: nothing to do, since the table's type says so.
+fn words(xs: &[u32])
+    ensures { Words xs.now }
 {}
 
 // Are the tables sound? Yes exactly if no place is at fault.
@@ -281,7 +265,9 @@ pub fn is_sound(s: Session, plan: &[u8], g: &[u32], ahead: &Ahead) -> bool
     requires fits { Fits (cells s) (lent plan.now g.now ahead.now) }
     ensures { Decides result (Sound s (lent plan.now g.now ahead.now)) }
 {
-    has_words(&ahead.rhs);
-    has_words(&ahead.k2);
+    let rhs = &*ahead.rhs;
+    let k2 = &*ahead.k2;
+    words(rhs);
+    words(k2);
     first_fault(s, plan, g, ahead).is_none()
 }
