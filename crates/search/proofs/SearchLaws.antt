@@ -7,6 +7,8 @@ use Prim.Native.Nat.{ℕ, suc, ◌+◌, ◌-◌, ◌*◌, ◌≤◌, ◌<◌}
 use native.Mathlib.Omega.{arith}
 use native.Mathlib.Decide.{ℕ_discrete}
 use lib.ListN.{get_or, length, set}
+use Rattle.std.specs.Prelude.{Result, Ok}
+use Rattle.refusal.specs.declared.Refusal.{Refusal}
 use Rattle.decide.proofs.ChooseLaws.{choose_yes, choose_no}
 use Rattle.method.specs.Numbers.{infinite}
 use Rattle.method.specs.Graph.{GraphLaws}
@@ -54,7 +56,7 @@ module _ {s : Session} {t : Tables} (S : Sound s t) (e : s.hunter ≡ s.target) 
   unfolding calls.search
   caught_is = choose_yes (ℕ_discrete s.hunter s.target) _ _ e
 
-  pub searched_caught : {way way' : List ℕ} → cells s ≤ length way → way' ≡ set way 0 s.hunter → Searched s t way (record { session = s; answer = Caught s.hunter }) t way'
+  pub searched_caught : {way way' : List ℕ} → cells s ≤ length way → way' ≡ set way 0 s.hunter → Searched s t way (record { session = s; answer = Ok (Caught s.hunter) }) t way'
   searched_caught {way} long ew = record {
     answer = sym (ap (λ o. tells o.answer) caught_is);
     frame_is = refl;
@@ -225,7 +227,7 @@ module _ {s : Session} {t : Tables} (S : Sound s t) where
             next : (k : ℕ) → k + 1 ≡ suc k
             next k = omega arith
 
-        by_answer : {way way' : List ℕ} {x : Answer} → told_by x way' ≡ tells (outcome s t).answer → way' ≡ written (cells_of (outcome s t).answer) way
+        by_answer : {way way' : List ℕ} {x : Result Answer Refusal} → told_by x way' ≡ tells (outcome s t).answer → way' ≡ written (cells_of (outcome s t).answer) way
             → Searched s t way (record { session = left_by r n (r.searches + 1); answer = x }) t₂ way'
         by_answer ea ew = record {
           answer = ea;
@@ -257,6 +259,6 @@ module _ {s : Session} {t : Tables} (S : Sound s t) where
               ap (λ m. written m way) e ∙ sym (ap (λ y. written (cells_of y) way) (answer_way f)),
             )
 
-        pub searched : {way way' : List ℕ} {x : Answer} → Answers a over steps rhs₂ parent₂ way (told_by x way') way'
+        pub searched : {way way' : List ℕ} {x : Result Answer Refusal} → Answers a over steps rhs₂ parent₂ way (told_by x way') way'
             → Searched s t way (record { session = left_by r n (r.searches + 1); answer = x }) (tables t.plan g₂ rhs₂ parent₂ k1₂ k2₂ place₂ list₂) way'
         searched {way} {way'} {x} A = let q = told_is (subst (λ y. Answers y over steps rhs₂ parent₂ way (told_by x way') way') aim_is A) in by_answer q.0 q.1

@@ -2,6 +2,7 @@
 #![tactic(auto)]
 
 ghost use Rattle.std.specs.Prelude.{◌≤◌, length};
+ghost use Rattle.refusal.specs.Numbers.{number_in};
 ghost use Rattle.tables.specs.Lent.{tables, cells};
 ghost use Rattle.tables.specs.Sound.{Sound};
 ghost use Rattle.search.specs.Promise.{SearchRules, Searched, Searches};
@@ -9,6 +10,7 @@ ghost use Rattle.search.specs.Promise.{SearchRules, Searched, Searches};
 use answer;
 use answer::Answer;
 use entries;
+use refusal::Refusal;
 use session;
 use steps;
 use tables::Session;
@@ -18,11 +20,12 @@ use take_over;
 #[derive(Clone, Copy)]
 pub struct Outcome {
     pub session: Session,
-    pub answer: Answer,
+    pub answer: Result<Answer, Refusal>,
 }
 
-// The number of the first rule that a search breaks before its steps, 0 if none.
-fn refusal(
+// Are the tables sound, and has the way list room for all cells?
+#[tactic(auto, using(crate::proofs::RefusalLaws::refusing))]
+fn check(
     s: Session,
     plan: &[u8],
     g: &[u32],
@@ -33,17 +36,14 @@ fn refusal(
     place: &[u16],
     list: &[u16],
     way: &[u16],
-) -> u8
-    ensures { SearchRules s (tables plan.now g.now rhs.now parent.now k1.now k2.now place.now list.now) way.now result }
+) -> Result<(), Refusal>
+    ensures { SearchRules s (tables plan.now g.now rhs.now parent.now k1.now k2.now place.now list.now) way.now (number_in result) }
 {
-    let number = session::table_refusal(s, plan, g, rhs, parent, k1, k2, place, list);
-    if number != 0 {
-        return number;
-    }
+    session::check_tables(s, plan, g, rhs, parent, k1, k2, place, list)?;
     if way.len() < s.height * s.width {
-        return 7;
+        return Err(Refusal::Room);
     }
-    0
+    Ok(())
 }
 
 // A search of sound tables: for a caller who knows that they are, so that the check is not paid. At most three steps for each cell.
@@ -66,17 +66,33 @@ pub fn search_sound(
         way[0] = s.hunter as u16;
         return Outcome {
             session: s,
-            answer: Answer::Caught(s.hunter),
+            answer: Ok(Answer::Caught(s.hunter)),
         };
     }
-    let mut t = take_over::take_over(s, plan, g, rhs, parent, k1, k2, place, list);
-    let a = entries::aim_of(t);
+    let taken = take_over::take_over(s, plan, g, rhs, parent, k1, k2, place, list);
+    let a = entries::aim_of(taken);
     let limit = 3 * (s.height * s.width);
-    let ran = steps::run(a, plan, g, rhs, parent, k1, k2, place, list, t.count, limit);
-    t.count = ran.count;
-    t.searches += 1;
-    let answer = answer::answered(a, ran.ended, ran.steps, rhs, parent, way);
-    Outcome { session: t, answer }
+    let ran = steps::run(
+        a,
+        plan,
+        g,
+        rhs,
+        parent,
+        k1,
+        k2,
+        place,
+        list,
+        taken.count,
+        limit,
+    );
+    Outcome {
+        session: Session {
+            count: ran.count,
+            searches: taken.searches + 1,
+            ..taken
+        },
+        answer: answer::answered(a, ran.ended, ran.steps, rhs, parent, way),
+    }
 }
 
 // One search, for any record and any content of the lent tables.
@@ -94,12 +110,11 @@ pub fn search(
 ) -> Outcome
     ensures { Searches s (tables plan.now g.old rhs.old parent.old k1.old k2.old place.old list.old) way.old result (tables plan.now g.new rhs.new parent.new k1.new k2.new place.new list.new) way.new }
 {
-    let number = refusal(s, plan, g, rhs, parent, k1, k2, place, list, way);
-    if number != 0 {
-        return Outcome {
+    match check(s, plan, g, rhs, parent, k1, k2, place, list, way) {
+        Ok(()) => search_sound(s, plan, g, rhs, parent, k1, k2, place, list, way),
+        Err(refusal) => Outcome {
             session: s,
-            answer: Answer::Refused(number),
-        };
+            answer: Err(refusal),
+        },
     }
-    search_sound(s, plan, g, rhs, parent, k1, k2, place, list, way)
 }

@@ -8,35 +8,16 @@ pub returns-then-s : goal.returns-then-s
 returns-then-s c = searched_caught c.requires.0 c.if-s.true c.requires.1 refl
 
 pub run-ran-requires-clause-aimed : goal.run-ran-requires-clause-aimed
-run-ran-requires-clause-aimed c = let S = c.requires.0 in
-    run_aimed S c.take_over-t.ensures c.aim_of-a.ensures
+run-ran-requires-clause-aimed c = run_aimed c.requires.0 c.take_over-taken.ensures c.aim_of-a.ensures
 
 pub run-ran-requires-clause-started : goal.run-ran-requires-clause-started
-run-ran-requires-clause-started c = let S = c.requires.0 in
-    run_started S c.take_over-t.ensures c.aim_of-a.ensures
+run-ran-requires-clause-started c = run_started c.requires.0 c.take_over-taken.ensures c.aim_of-a.ensures
 
-pub overflow_add-t : goal.overflow_add-t
-overflow_add-t c = omega (
-  arith,
-  few_searches
-      c.requires.0
-      c.take_over-t.ensures
-      c.aim_of-a.ensures,
-)
+pub overflow_add-result : goal.overflow_add-result
+overflow_add-result c = omega (arith, few_searches c.requires.0 c.take_over-taken.ensures c.aim_of-a.ensures)
 
-pub answered-answer-requires : goal.answered-answer-requires
-answered-answer-requires c = answering
-    c.requires.0
-    c.take_over-t.ensures
-    c.aim_of-a.ensures
-    c.run-ran.ensures
-    c.requires.1
+pub answered-requires : goal.answered-requires
+answered-requires c = answering c.requires.0 c.take_over-taken.ensures c.aim_of-a.ensures c.run-ran.ensures c.requires.1
 
 pub returns : goal.returns
-returns c = searched
-    c.requires.0
-    c.take_over-t.ensures
-    c.aim_of-a.ensures
-    c.run-ran.ensures
-    c.if-s.false
-    c.answered-answer.ensures
+returns c = searched c.requires.0 c.take_over-taken.ensures c.aim_of-a.ensures c.run-ran.ensures c.if-s.false c.answered.ensures
