@@ -97,12 +97,12 @@ fn operate(queue: &mut Queue, cell: usize, y: usize)
     let second = (y / 28 % 3) as u32;
     if queue.place[cell] == ABSENT {
         queue.put_in(cell, first, second);
-        return;
-    }
-    match y % 4 {
-        0 => queue.take_out(cell),
-        1 => take_least(queue),
-        _ => queue.put_under(cell, first, second),
+    } else {
+        match y % 4 {
+            0 => queue.take_out(cell),
+            1 => take_least(queue),
+            _ => queue.put_under(cell, first, second),
+        }
     }
 }
 
@@ -122,6 +122,7 @@ fn drain(queue: &mut Queue, seen: usize) -> usize
 // Operates on the empty queue, drains what is left, and prints the trial's line. Each cell has its turn first, so that the queue is full once, and then the numbers say which.
 fn exercise(rt: &impl Print, queue: &mut Queue) -> io::Result<()>
     requires heap { HeapIn queue.old }
+    requires empty { queue.old.count ≡ 0 }
     requires list_nonzero { 0 < length queue.old.list.now }
 {
     let width = queue.width;
@@ -149,6 +150,7 @@ fn clear(queue: &mut Queue)
     ensures same_tables { SameTables queue.old queue.new }
     ensures list_len { length queue.new.list.now ≡ length queue.old.list.now }
     ensures heap_after { HeapIn queue.new }
+    ensures count { queue.new.count ≡ 0 }
 {
     queue.k1.fill(0);
     queue.k2.fill(0);
@@ -158,7 +160,6 @@ fn clear(queue: &mut Queue)
 }
 
 // Owns the tables of the largest plan, and lends their first part to the queue of each trial, which is cleared first.
-
 fn main(rt: HostRuntime) -> io::Result<()> {
     let mut k1 = [0u32; 4096];
     let mut k2 = [0u32; 4096];
