@@ -7,7 +7,7 @@ ghost use Rattle.answer.specs.Answer.{told_by, Answering, Answers};
 use entries;
 use entries::Aim;
 use refusal::Refusal;
-use tables;
+use tables::{Ahead, INFINITE};
 
 // Caught at a cell; no way, after so many steps; or a way: its cost, the steps, and the number of its cells.
 #[derive(Clone, Copy)]
@@ -58,22 +58,21 @@ pub fn answered(
     a: Aim,
     ended: bool,
     steps: usize,
-    rhs: &[u32],
-    parent: &[u8],
+    ahead: &Ahead,
     way: &mut [u16],
 ) -> Result<Answer, Refusal>
-    requires { Answering a rhs.now parent.now way.old }
-    ensures { Answers a ended steps rhs.now parent.now way.old (told_by result way.new) way.new }
+    requires { Answering a ahead.now.rhs.now ahead.now.parent.now way.old }
+    ensures { Answers a ended steps ahead.now.rhs.now ahead.now.parent.now way.old (told_by result way.new) way.new }
 {
     if !ended {
         return Err(Refusal::CutOff);
     }
-    let far = rhs[a.target];
-    if far == tables::INFINITE {
+    let far = ahead.rhs[a.target];
+    if far == INFINITE {
         return Ok(Answer::NoWay(steps));
     }
-    let near = rhs[a.hunter];
-    let cells = write_way(a, parent, way);
+    let near = ahead.rhs[a.hunter];
+    let cells = write_way(a, &ahead.parent, way);
     Ok(Answer::Way {
         cost: far - near,
         steps,

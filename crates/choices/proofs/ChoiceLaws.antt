@@ -24,7 +24,7 @@ use Rattle.plan.proofs.EstimateLaws.{estimate_self}
 use Rattle.tables.specs.declared.Ahead.{Ahead}
 use Rattle.tables.specs.Lent.{lent, graph_in, core}
 use Rattle.tables.proofs.FrameLaws.{graph_in_laws}
-use Rattle.tables.proofs.SoundLaws.{Words}
+use Rattle.tables.specs.Asked.{Words}
 use Rattle.entries.specs.declared.Aim.{Aim}
 use Rattle.entries.specs.Aims.{area, frame_of, hunt}
 use Rattle.choices.specs.Next.{Goal, Choosing, Chosen}

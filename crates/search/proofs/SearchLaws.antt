@@ -22,6 +22,7 @@ use Rattle.method.proofs.Answers.{Stopped, Trail, trail, trail_way}
 use Rattle.method.proofs.Searching.{hunt_taken, bound_taken, run_taken, during_start, went_to, ended}
 use Rattle.queue.specs.Queue.{members}
 use Rattle.plan.proofs.MoveLaws.{area}
+use Rattle.plan.specs.Reached.{At}
 use Rattle.tables.specs.declared.Session.{Session}
 use Rattle.tables.specs.Lent.{Tables, tables, frame, framed, cells, graph, session, core}
 use Rattle.tables.specs.Sound.{Sound}
@@ -99,11 +100,11 @@ module _ {s : Session} {t : Tables} (S : Sound s t) where
     H = K.holds
 
     abbrev b : Aim
-    b = aim_by (frame s) (calls.taken_over (graph s t) (session s) (core t)).session a.row a.column
+    b = aim_by (frame s) (calls.taken_over (graph s t) (session s) (core t)).session a.target_at
 
-    pub aim_is : a ≡ aim_by (frame s) (calls.taken_over (graph s t) (session s) (core t)).session a.row a.column
+    pub aim_is : a ≡ aim_by (frame s) (calls.taken_over (graph s t) (session s) (core t)).session a.target_at
     aim_is =
-        O.is ∙ ap (λ f. aim_by f (session r) a.row a.column) H.frame_is ∙ ap (λ σ. aim_by (frame s) σ a.row a.column) H.record_is
+        O.is ∙ ap (λ f. aim_by f (session r) a.target_at) H.frame_is ∙ ap (λ σ. aim_by (frame s) σ a.target_at) H.record_is
 
     pub run_aimed : Aimed a t.plan
     run_aimed =
@@ -117,9 +118,9 @@ module _ {s : Session} {t : Tables} (S : Sound s t) where
           km_le = omega (arith, R.km_le, R.searches_lt);
         })
       where
-        stands : Rattle.plan.specs.Cells.Stands s.width taken.session.goal a.row a.column
-        stands = subst (λ w. Rattle.plan.specs.Cells.Stands w taken.session.goal a.row a.column) (ap (λ f. f.width) H.frame_is)
-            (subst (λ x. Rattle.plan.specs.Cells.Stands r.width x a.row a.column) (ap (λ σ. σ.goal) H.record_is) O.target_at)
+        stands : At s.width taken.session.goal a.target_at
+        stands = subst (λ w. At w taken.session.goal a.target_at) (ap (λ f. f.width) H.frame_is)
+            (subst (λ x. At r.width x a.target_at) (ap (λ σ. σ.goal) H.record_is) O.target_at)
 
     pub run_started : Started a (3 * cells s) r.count (tables t.plan g₁ rhs₁ parent₁ k1₁ k2₁ place₁ list₁)
     run_started =
@@ -193,7 +194,7 @@ module _ {s : Session} {t : Tables} (S : Sound s t) where
             not_above = λ f. (led f).3;
           })
 
-      pub long_after : Held (aim_by (frame s) (calls.taken_over (graph s t) (session s) (core t)).session a.row a.column) n (tables t.plan g₂ rhs₂ parent₂ k1₂ k2₂ place₂ list₂)
+      pub long_after : Held (aim_by (frame s) (calls.taken_over (graph s t) (session s) (core t)).session a.target_at) n (tables t.plan g₂ rhs₂ parent₂ k1₂ k2₂ place₂ list₂)
       long_after = record { sized = during.sized; heap = finished.tables.heap }
 
       -- what the method answers

@@ -3,7 +3,7 @@
 
 ghost use Rattle.std.specs.Prelude.{◌≤◌, length};
 ghost use Rattle.refusal.specs.Numbers.{number_in};
-ghost use Rattle.tables.specs.Lent.{tables, cells};
+ghost use Rattle.tables.specs.Lent.{lent, SameTables, cells};
 ghost use Rattle.tables.specs.Sound.{Sound};
 ghost use Rattle.search.specs.Promise.{SearchRules, Searched, Searches};
 
@@ -13,7 +13,7 @@ use entries;
 use refusal::Refusal;
 use session;
 use steps;
-use tables::Session;
+use tables::{Ahead, Session};
 use take_over;
 
 // What a search returns: the record as it leaves it, and the answer.
@@ -25,21 +25,10 @@ pub struct Outcome {
 
 // Are the tables sound, and has the way list room for all cells?
 #[tactic(auto, using(crate::proofs::RefusalLaws::refusing))]
-fn check(
-    s: Session,
-    plan: &[u8],
-    g: &[u32],
-    rhs: &[u32],
-    parent: &[u8],
-    k1: &[u32],
-    k2: &[u32],
-    place: &[u16],
-    list: &[u16],
-    way: &[u16],
-) -> Result<(), Refusal>
-    ensures { SearchRules s (tables plan.now g.now rhs.now parent.now k1.now k2.now place.now list.now) way.now (number_in result) }
+fn check(s: Session, plan: &[u8], g: &[u32], ahead: &Ahead, way: &[u16]) -> Result<(), Refusal>
+    ensures { SearchRules s (lent plan.now g.now ahead.now) way.now (number_in result) }
 {
-    session::check_tables(s, plan, g, rhs, parent, k1, k2, place, list)?;
+    session::check_tables(s, plan, g, ahead)?;
     if way.len() < s.height * s.width {
         return Err(Refusal::Room);
     }
@@ -51,16 +40,12 @@ pub fn search_sound(
     s: Session,
     plan: &[u8],
     g: &mut [u32],
-    rhs: &mut [u32],
-    parent: &mut [u8],
-    k1: &mut [u32],
-    k2: &mut [u32],
-    place: &mut [u16],
-    list: &mut [u16],
+    ahead: &mut Ahead,
     way: &mut [u16],
 ) -> Outcome
-    requires { Sound s (tables plan.now g.old rhs.old parent.old k1.old k2.old place.old list.old) × (cells s ≤ length way.old) }
-    ensures { Searched s (tables plan.now g.old rhs.old parent.old k1.old k2.old place.old list.old) way.old result (tables plan.now g.new rhs.new parent.new k1.new k2.new place.new list.new) way.new }
+    requires { Sound s (lent plan.now g.old ahead.old) × (cells s ≤ length way.old) }
+    ensures searched { Searched s (lent plan.now g.old ahead.old) way.old result (lent plan.now g.new ahead.new) way.new }
+    ensures same_tables { SameTables ahead.old ahead.new }
 {
     if s.hunter == s.target {
         way[0] = s.hunter as u16;
@@ -69,49 +54,27 @@ pub fn search_sound(
             answer: Ok(Answer::Caught(s.hunter)),
         };
     }
-    let taken = take_over::take_over(s, plan, g, rhs, parent, k1, k2, place, list);
+    let taken = take_over::take_over(s, plan, g, ahead);
     let a = entries::aim_of(taken);
     let limit = 3 * (s.height * s.width);
-    let ran = steps::run(
-        a,
-        plan,
-        g,
-        rhs,
-        parent,
-        k1,
-        k2,
-        place,
-        list,
-        taken.count,
-        limit,
-    );
+    let ran = steps::run(a, plan, g, ahead, taken.count, limit);
     Outcome {
         session: Session {
             count: ran.count,
             searches: taken.searches + 1,
             ..taken
         },
-        answer: answer::answered(a, ran.ended, ran.steps, rhs, parent, way),
+        answer: answer::answered(a, ran.ended, ran.steps, ahead, way),
     }
 }
 
 // One search, for any record and any content of the lent tables.
-pub fn search(
-    s: Session,
-    plan: &[u8],
-    g: &mut [u32],
-    rhs: &mut [u32],
-    parent: &mut [u8],
-    k1: &mut [u32],
-    k2: &mut [u32],
-    place: &mut [u16],
-    list: &mut [u16],
-    way: &mut [u16],
-) -> Outcome
-    ensures { Searches s (tables plan.now g.old rhs.old parent.old k1.old k2.old place.old list.old) way.old result (tables plan.now g.new rhs.new parent.new k1.new k2.new place.new list.new) way.new }
+pub fn search(s: Session, plan: &[u8], g: &mut [u32], ahead: &mut Ahead, way: &mut [u16]) -> Outcome
+    ensures searches { Searches s (lent plan.now g.old ahead.old) way.old result (lent plan.now g.new ahead.new) way.new }
+    ensures same_tables { SameTables ahead.old ahead.new }
 {
-    match check(s, plan, g, rhs, parent, k1, k2, place, list, way) {
-        Ok(()) => search_sound(s, plan, g, rhs, parent, k1, k2, place, list, way),
+    match check(s, plan, g, ahead, way) {
+        Ok(()) => search_sound(s, plan, g, ahead, way),
         Err(refusal) => Outcome {
             session: s,
             answer: Err(refusal),

@@ -2,7 +2,7 @@
 use native.Mathlib.Omega.{arith}
 use Rattle.std.proofs.Common.{rules}
 use Rattle.plan.proofs.MoveLaws.{area}
-use Rattle.tables.proofs.SoundLaws.{Words}
+use Rattle.tables.specs.Asked.{Words}
 use Rattle.choices.proofs.ChoiceLaws.{leading, goal_key, chosen_empty, chosen_in, chosen_over, chosen_short, chosen_done}
 use Rattle.choices.proofs.chosen.Goals as goal
 use Rattle.choices.proofs.chosen.Goals.{then-x-y-via-then-x-y, then-x-y-via-else-x-y+then-least-key}
