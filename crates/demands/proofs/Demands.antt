@@ -6,6 +6,8 @@ use Prim.Native.Nat.{ℕ, zero, suc, ◌*◌, ◌≤◌, ◌<◌}
 use native.Mathlib.Omega.{arith}
 use native.Mathlib.Decide.{ℕ_discrete}
 use lib.ListN.{length}
+use Rattle.std.specs.Prelude.{Result}
+use Rattle.refusal.specs.declared.Refusal.{Refusal}
 use Rattle.decide.proofs.ChooseLaws.{differ}
 use Rattle.method.specs.Numbers.{renewal}
 use Rattle.method.specs.Graph.{GraphLaws}
@@ -205,7 +207,7 @@ same_record {r} {r'} ef es ec = ap (λ f. built f (session r) r.count) ef ∙ ap
 same_outcome : {r r' : Outcome} → r.session ≡ r'.session → r.answer ≡ r'.answer → r ≡ r'
 same_outcome {r} {r'} e f = ap (λ x. made x r.answer) e ∙ ap (λ x. made r'.session x) f
   where
-    made : Session → Answer → Outcome
+    made : Session → Result Answer Refusal → Outcome
     made s a = record { session = s; answer = a }
 
 pub one_search : {s : Session} {t a a' : Tables} (way : List ℕ) {w w' : List ℕ} {r r' : Outcome} → Searches s t way r a w → Searches s t way r' a' w'

@@ -5,6 +5,7 @@ use mathlib.Core.List.{List}
 use Prim.Native.Nat.{ℕ, ◌+◌}
 use native.Mathlib.Omega.{arith}
 use native.Mathlib.Decide.{ℕ_discrete}
+use Rattle.std.specs.Prelude.{Ok}
 use Rattle.method.specs.Numbers.{growth}
 use Rattle.method.specs.Graph.{GraphLaws}
 use Rattle.method.specs.Session as calls
@@ -15,7 +16,6 @@ use Rattle.tables.specs.declared.Session.{Session}
 use Rattle.tables.specs.Lent.{Tables, frame, cells, graph, session, core}
 use Rattle.tables.specs.Sound.{Sound}
 use Rattle.tables.proofs.FrameLaws.{graph_in_laws}
-use Rattle.session.specs.declared.Answer.TheVariants.{Done}
 use Rattle.session.specs.declared.Reply.{Reply}
 use Rattle.session.specs.Promises.{Opens}
 use Rattle.session.proofs.RefusalLaws.{answered}
@@ -39,7 +39,7 @@ search_keeps_sound {s} {t} {t'} {way} {way'} {r} S P = at (ℕ_discrete P.number
     at (no n) = let q = P.refused n in subst (λ x. Sound x t') (sym q.1) (subst (λ x. Sound s x) (sym q.2) S)
 
 -- An open that is refused keeps the tables.
-open_keeps : {width height hunter target : ℕ} {t t' : Tables} {r : Reply} → Opens width height hunter target t r t' → r.answer ≢ Done → t' ≡ t
+open_keeps : {width height hunter target : ℕ} {t t' : Tables} {r : Reply} → Opens width height hunter target t r t' → r.answer ≢ Ok tt → t' ≡ t
 open_keeps P n = (P.refused (λ z. n (open_answer P ∙ ap answered z))).1
 
 -- So does every call ..

@@ -1,6 +1,6 @@
 -- "Every order of door changes and moves between two searches": a history is any sequence of public calls, each done or refused; `EveryOrder` says what holds at every point and of every search of it.
 -- proofs/History.antt proves it of every history.
-use Rattle.std.specs.Prelude.{◌≡◌, ◌≢◌, List, ℕ, ◌≤◌, length}
+use Rattle.std.specs.Prelude.{◌≡◌, ◌≢◌, Ok, List, ℕ, ◌≤◌, length}
 use Rattle.method.specs.Tables as method
 use Rattle.method.specs.Loop.{run}
 use Rattle.method.specs.Session as calls
@@ -8,7 +8,6 @@ use Rattle.method.specs.Growth.{NumbersFit, RaisesAtMost}
 use Rattle.tables.specs.declared.Session.{Session}
 use Rattle.tables.specs.Lent.{Tables, cells, graph, session, core}
 use Rattle.tables.specs.Sound.{Sound}
-use Rattle.session.specs.declared.Answer.TheVariants.{Done}
 use Rattle.session.specs.declared.Reply.{Reply}
 use Rattle.session.specs.Promises.{hunter_at, target_at, Places, Opens}
 use Rattle.change.specs.Promise.{Changes}
@@ -24,12 +23,12 @@ pub data Call (s : Session) (t : Tables) : Session → Tables → Type 0 where
   places_target : {cell : ℕ} {r : Reply} → Places s (target_at s cell) cell r → Call s t r.session t
   changes_move : {u d cost : ℕ} {r : Reply} {t' : Tables} → Changes s t u d cost r t' → Call s t r.session t'
   searches : {way way' : List ℕ} {r : Outcome} {t' : Tables} → Searches s t way r t' way' → Call s t r.session t'
-  opens_again : {width height hunter target : ℕ} {r : Reply} {t' : Tables} → Opens width height hunter target t r t' → r.answer ≡ Done → Call s t r.session t'
-  open_refused : {width height hunter target : ℕ} {r : Reply} {t' : Tables} → Opens width height hunter target t r t' → r.answer ≢ Done → Call s t s t'
+  opens_again : {width height hunter target : ℕ} {r : Reply} {t' : Tables} → Opens width height hunter target t r t' → r.answer ≡ Ok tt → Call s t r.session t'
+  open_refused : {width height hunter target : ℕ} {r : Reply} {t' : Tables} → Opens width height hunter target t r t' → r.answer ≢ Ok tt → Call s t s t'
 
 -- A history that has come to the record s and the tables t. It begins with an open that is done, or with any sound tables, "however they came about"; then calls follow in any order and any number.
 pub data History : Session → Tables → Type 0 where
-  opened : {width height hunter target : ℕ} {t t' : Tables} {r : Reply} → Opens width height hunter target t r t' → r.answer ≡ Done → History r.session t'
+  opened : {width height hunter target : ℕ} {t t' : Tables} {r : Reply} → Opens width height hunter target t r t' → r.answer ≡ Ok tt → History r.session t'
   from_sound : {s : Session} {t : Tables} → Sound s t → History s t
   and_then : {s s' : Session} {t t' : Tables} → History s t → Call s t s' t' → History s' t'
 
