@@ -6,30 +6,27 @@ ghost use Rattle.rewrite_trial.specs.Again.{Again};
 
 use drill_file;
 use drill_writer;
-use drill_writer::Written;
 use failure;
 use input;
-use input::Got;
 use lines;
+use refusal::Refusal;
+use text::Text;
 
 // Writes a file again from its own parts.
-fn rewrite(file: &[u8], room: &mut [u8]) -> Written
+fn rewrite(file: &[u8], room: &mut [u8]) -> Result<usize, Refusal>
     requires { length file.now ≤ length room.old }
     ensures { Again file.now room.old result room.new }
 {
     let t = drill_file::trailer_in(file);
-    let form = drill_file::form(file, t);
-    if form != 0 {
-        return Written::Refused(form);
-    }
+    drill_file::check_form(file, t)?;
     let plan = t.offset;
-    let end = file.len() - 12;
+    let end = file.len() - drill_file::TRAILER;
     drill_writer::write(
         t.width,
         t.height,
         t.hunter,
         t.target,
-        &file[0..plan],
+        &file[..plan],
         &file[plan..end],
         room,
     )
@@ -43,21 +40,25 @@ fn print<R: Print + Eprint>(rt: &R, text: &[u8]) {
 }
 
 // Prints the line of a refusal.
-fn print_refusal<R: Print + Eprint>(rt: &R, number: u8) {
-    let mut line = [0u8; 4096];
-    let end = lines::put_refusal(number, &mut line, 0);
-    print(rt, &line[0..end]);
+fn print_refusal<R: Print + Eprint>(rt: &R, refusal: Refusal) {
+    let mut room = [0u8; 64];
+    let mut line = Text {
+        room: &mut room,
+        used: 0,
+    };
+    lines::put_refusal(refusal, &mut line);
+    let used = line.used;
+    print(rt, &room[..used]);
 }
 
-// Writes the file, the first `got` bytes of the input, again and prints what was written.
-fn rewrite_input<R: Print + Eprint>(rt: &R, input: &[u8], got: usize, room: &mut [u8])
-    requires got_in_bounds { got ≤ length input.now }
-    requires input_in_bounds { length input.now ≤ length room.old }
+// Writes the file again and prints what was written.
+#[tactic(auto, using(crate::proofs::AgainLaws::within))]
+fn rewrite_input<R: Print + Eprint>(rt: &R, file: &[u8], room: &mut [u8])
+    requires { length file.now ≤ length room.old }
 {
-    let written = rewrite(&input[0..got], room);
-    match written {
-        Written::Bytes(bytes) => print(rt, &room[0..bytes]),
-        Written::Refused(number) => print_refusal(rt, number),
+    match rewrite(file, room) {
+        Ok(bytes) => print(rt, &room[..bytes]),
+        Err(refusal) => print_refusal(rt, refusal),
     }
 }
 
@@ -65,12 +66,8 @@ fn rewrite_input<R: Print + Eprint>(rt: &R, input: &[u8], got: usize, room: &mut
 fn main(rt: HostRuntime) {
     let mut input = [0u8; 65537];
     let mut room = [0u8; 65537];
-    let got = match input::read_whole(&mut rt.stdin(), &mut input) {
-        Got::Bytes(got) => got,
-        Got::Failed(why) => {
-            failure::tell(&rt, "standard input", why);
-            return;
-        }
-    };
-    rewrite_input(&rt, &input, got, &mut room);
+    match input::read_whole(&mut rt.stdin(), &mut input) {
+        Ok(got) => rewrite_input(&rt, &input[..got], &mut room),
+        Err(why) => failure::tell(&rt, "standard input", why),
+    }
 }
