@@ -7,7 +7,7 @@ use native.Mathlib.Nat.{mod-lt, div-add-mod'}
 use native.Mathlib.Decide.{ℕ_discrete, dec_lt}
 use native.Mathlib.Omega.{arith}
 use lib.Arith.{digits_lt}
-use lib.ListN.{length, get_or, set, length-set}
+use lib.ListN.{length, get_or, set, length-set, replicate, length-replicate, get_or-replicate, get_or-eq_default}
 use lib.Pow.{pow_pos}
 use lib.Seq.{get_or-set_same, get_or-set_other}
 use borrow.Author.Count.{below_more}
@@ -21,7 +21,7 @@ use Rattle.plan.specs.Toward.{Leads}
 use Rattle.plan.specs.declared.Spot.{Spot}
 use Rattle.plan.proofs.CellLaws.{stands_row, stands_column, row_lt}
 use Rattle.plan.proofs.GridLaws.{graph_laws}
-use Rattle.plan.proofs.MoveLaws.{open_stays, spot_placed, entered_in, cost_of}
+use Rattle.plan.proofs.MoveLaws.{area, open_stays, spot_placed, entered_in, cost_of}
 use Rattle.plan.proofs.TowardLaws.{leads_open, open_leads}
 use Rattle.reach.specs.Bits.{bit, bit_of, Marked, sum_to}
 use Rattle.reach.specs.Reachable.{Reachable, Part}
@@ -180,7 +180,18 @@ module _ {p : Plan} (O : Obeys p) {rows list : List ℕ} {count v : ℕ} {at : S
         one_more = refl;
       })
 
--- Nothing is marked at first ..
+-- A fresh array of zeros.
+zeros : (n i : ℕ) → ◌≡◌ {A = ℕ} (get_or (replicate n 0) i 0) 0
+zeros n i = at (dec_lt i n)
+  where
+    at : Dec (i < n) → ◌≡◌ {A = ℕ} (get_or (replicate n 0) i 0) 0
+    at (yes l) = get_or-replicate n i 0 0 l
+    at (no m) = get_or-eq_default (replicate {A = ℕ} n 0) 0 (omega (arith, length-replicate {A = ℕ} n 0))
+
+-- Nothing is marked at first: fresh arrays are large enough for every plan ..
+pub clean_at_first : {p : Plan} → Obeys p → Clean p (replicate 64 0) (replicate 4096 0)
+clean_at_first O = record { rowed = omega (arith, O.size.low); room = omega (arith, area O.size); none = zeros 64 }
+
 filled_none : {p : Plan} {rows list : List ℕ} → Clean p rows list → ((s : ℕ) → bit_of p.width rows s ≡ 0) × Filled p rows list 0
 unfolding bit_of
 filled_none {p} {rows} {list} C = (

@@ -3,9 +3,8 @@ use mathlib.Core.Path.{◌≡◌, refl, sym, ap, ◌∙◌}
 use mathlib.Core.Logic.{◌≢◌}
 use mathlib.Core.List.{List, ◌++◌}
 use Prim.Native.Nat.{ℕ, zero, suc, ◌-◌, ◌*◌, ◌/◌, ◌%◌, ◌≤◌, ◌<◌}
-use native.Mathlib.Decide.{dec_lt}
 use native.Mathlib.Omega.{arith}
-use lib.ListN.{length, length-append, take, drop, get_or, replicate, length-replicate, get_or-replicate, get_or-eq_default}
+use lib.ListN.{length, length-append, take, drop, get_or}
 use Rattle.std.specs.Prelude.{Ok, Err, sum_by}
 use Rattle.std.specs.Int.Count.{ones}
 use Rattle.std.proofs.Math.Seq.{take-suc}
@@ -134,11 +133,3 @@ module _ {width height hunter : ℕ} {plan : List ℕ} (rows moves : List ℕ) (
           where
             room : (n : ℕ) → n ≤ count → n ≤ length moves
             room n l = omega arith
-
--- A fresh array of zeros.
-pub zeros : (n i : ℕ) → ◌≡◌ {A = ℕ} (get_or (replicate n 0) i 0) 0
-zeros n i = at (dec_lt i n)
-  where
-    at : Dec (i < n) → ◌≡◌ {A = ℕ} (get_or (replicate n 0) i 0) 0
-    at (yes l) = get_or-replicate n i 0 0 l
-    at (no m) = get_or-eq_default (replicate {A = ℕ} n 0) 0 (omega (arith, length-replicate {A = ℕ} n 0))

@@ -12,7 +12,7 @@ ghost use Rattle.reach.specs.Bits.{Marked};
 ghost use Rattle.reach.specs.Reachable.{Part};
 ghost use Rattle.reach.specs.Outs.{LeadsOut, Outs};
 ghost use Rattle.reach.specs.Promise.{PlanRules, Reports};
-ghost use Rattle.reach.specs.Filling.{Clean, Filled, Grown, Looked, Looks, Markable, Put, Within};
+ghost use Rattle.reach.specs.Filling.{Filled, Grown, Looked, Looks, Markable, Put, Within};
 
 use plan;
 use plan::{Floor, Spot};
@@ -29,70 +29,75 @@ fn is_marked(rows: &[u64], at: Spot) -> bool
     (rows[at.row] >> at.column) % 2 == 1
 }
 
-// Marks the cell of a spot, whose bit is 0, and puts it at the list's end.
-fn mark(rows: &mut [u64], list: &mut [u16], count: usize, at: Spot) -> usize
-    requires { Markable rows.old list.old count at }
-    ensures { Put rows.old list.old count at rows.new list.new result }
-{
-    rows[at.row] += 1 << at.column;
-    list[count] = (BITS * at.row + at.column) as u16;
-    count + 1
-}
-
-// Looks at the move in direction d from x, a cell of the list: if it is open, the cell that it enters is marked.
-fn visit(
-    floor: Floor,
-    rows: &mut [u64],
-    list: &mut [u16],
+// The cells marked so far: a bit for each, and a list of them, `count` long.
+#[derive(Drop)]
+struct Filling {
+    rows: [u64; 64],
+    list: [u16; 4096],
     count: usize,
-    x: usize,
-    d: usize,
-) -> usize
-    requires filled { Filled (floor_plan floor) rows.old list.old count }
-    requires within { Within floor.width floor.height x × (d < 4) }
-    ensures grown { Grown (floor_plan floor.entry) x rows.old list.old count rows.new list.new result }
-    ensures looks { Looks (floor_plan floor.entry) rows.new x d }
-{
-    let row = x / BITS;
-    let column = x % BITS;
-    if floor.plan[4 * (row * floor.width + column) + d] == plan::SHUT {
-        return count;
-    }
-    let to = plan::moved(Spot { row, column }, d);
-    if is_marked(rows, to) {
-        return count;
-    }
-    mark(rows, list, count, to)
 }
 
-// Looks at the four moves of x, a cell of the list.
-fn around(floor: Floor, rows: &mut [u64], list: &mut [u16], count: usize, x: usize) -> usize
-    requires filled { Filled (floor_plan floor) rows.old list.old count }
-    requires within { Within floor.width floor.height x }
-    ensures grown { Grown (floor_plan floor.entry) x rows.old list.old count rows.new list.new result }
-    ensures looked { Looked (floor_plan floor.entry) rows.new x 4 }
-{
-    let mut n = count;
-    for d in 0..4 {
-        n = visit(floor, rows, list, n, x, d);
+impl Filling {
+    // Marks the cell of a spot, whose bit is 0, and puts it at the list's end.
+    fn mark(&mut self, at: Spot)
+        requires { Markable self.old.rows self.old.list self.old.count at }
+        ensures { Put self.old.rows self.old.list self.old.count at self.new.rows self.new.list self.new.count }
+    {
+        self.rows[at.row] += 1 << at.column;
+        self.list[self.count] = (BITS * at.row + at.column) as u16;
+        self.count += 1;
     }
-    n
+
+    // Looks at the move in direction d from x, a cell of the list: if it is open, the cell that it enters is marked.
+    fn visit(&mut self, floor: Floor, x: usize, d: usize)
+        requires filled { Filled (floor_plan floor) self.old.rows self.old.list self.old.count }
+        requires within { Within floor.width floor.height x × (d < 4) }
+        ensures grown { Grown (floor_plan floor.entry) x self.old.rows self.old.list self.old.count self.new.rows self.new.list self.new.count }
+        ensures looks { Looks (floor_plan floor.entry) self.new.rows x d }
+    {
+        let row = x / BITS;
+        let column = x % BITS;
+        if floor.plan[4 * (row * floor.width + column) + d] == plan::SHUT {
+            return;
+        }
+        let to = plan::moved(Spot { row, column }, d);
+        if !is_marked(&self.rows, to) {
+            self.mark(to);
+        }
+    }
+
+    // Looks at the four moves of x, a cell of the list.
+    fn around(&mut self, floor: Floor, x: usize)
+        requires filled { Filled (floor_plan floor) self.old.rows self.old.list self.old.count }
+        requires within { Within floor.width floor.height x }
+        ensures grown { Grown (floor_plan floor.entry) x self.old.rows self.old.list self.old.count self.new.rows self.new.list self.new.count }
+        ensures looked { Looked (floor_plan floor.entry) self.new.rows x 4 }
+    {
+        for d in 0..4 {
+            self.visit(floor, x, d);
+        }
+    }
 }
 
 // Marks the hunter's cell, then looks around each cell of the list, until none is left.
-fn fill(floor: Floor, hunter: usize, rows: &mut [u64], list: &mut [u16])
-    requires hunter_bound { hunter < floor.height * floor.width }
-    requires clean { Clean (floor_plan floor) rows.old list.old }
-    ensures { Part (floor_plan floor.entry) hunter rows.new }
+fn fill(floor: Floor, hunter: usize) -> [u64; 64]
+    requires { hunter < floor.height * floor.width }
+    ensures { Part (floor_plan floor.entry) hunter result }
 {
+    let mut filling = Filling {
+        rows: [0; 64],
+        list: [0; 4096],
+        count: 0,
+    };
     let at = plan::spot_of(floor.width, hunter);
-    let mut count = mark(rows, list, 0, at);
+    filling.mark(at);
     let mut looked = 0;
-    while looked < count {
-        let x = list[looked] as usize;
-        count = around(floor, rows, list, count, x);
+    while looked < filling.count {
+        let x = filling.list[looked] as usize;
+        filling.around(floor, x);
         looked += 1;
     }
+    filling.rows
 }
 
 // The ones counts of the rows, summed: how many cells are marked.
@@ -118,51 +123,49 @@ fn leads_out(floor: Floor, rows: &[u64], at: Spot, place: usize) -> bool
     plan::stays_in(floor.width, floor.height, at, d) && !is_marked(rows, plan::moved(at, d))
 }
 
-// Puts a place at the list's end if its move leads out.
-fn put_out(
-    floor: Floor,
-    rows: &[u64],
-    outs: &mut [u16],
+// The places of the moves that lead out, as far as they are found: a list of them, `count` long.
+#[derive(Drop)]
+struct Places {
+    list: [u16; 16384],
     count: usize,
-    at: Spot,
-    place: usize,
-) -> usize
-    requires height_in_bounds { (floor.height ≤ length rows.now) × (place < 4 * (floor.height * floor.width)) × At floor.width (place / 4) at × (4 * (floor.height * floor.width) ≤ length outs.old) }
-    requires outs { Outs (floor_plan floor) (Marked floor.width rows.now) outs.old count place }
-    ensures { Outs (floor_plan floor.entry) (Marked floor.entry.width rows.now) outs.new result (place + 1) }
-{
-    if !leads_out(floor, rows, at, place) {
-        return count;
-    }
-    outs[count] = place as u16;
-    count + 1
+    ghost within: { count ≤ length list },
 }
 
-// Puts the places of a cell's moves that lead out. The compiler unrolls its loop, and each direction has its own test.
-fn put_four(floor: Floor, rows: &[u64], outs: &mut [u16], count: usize, at: Spot, u: usize) -> usize
-    requires height_in_bounds { (floor.height ≤ length rows.now) × (u < floor.height * floor.width) × At floor.width u at × (4 * (floor.height * floor.width) ≤ length outs.old) }
-    requires outs { Outs (floor_plan floor) (Marked floor.width rows.now) outs.old count (4 * u) }
-    ensures { Outs (floor_plan floor.entry) (Marked floor.entry.width rows.now) outs.new result (4 * (u + 1)) }
-{
-    let mut n = count;
-    for d in 0..4 {
-        n = put_out(floor, rows, outs, n, at, 4 * u + d);
+impl Places {
+    // Puts a place at the list's end if its move leads out.
+    fn put_out(&mut self, floor: Floor, rows: &[u64], at: Spot, place: usize)
+        requires height_in_bounds { (floor.height ≤ length rows.now) × (place < 4 * (floor.height * floor.width)) × At floor.width (place / 4) at }
+        requires outs { Outs (floor_plan floor) (Marked floor.width rows.now) self.old.list self.old.count place }
+        ensures { Outs (floor_plan floor.entry) (Marked floor.entry.width rows.now) self.new.list self.new.count (place + 1) }
+    {
+        if leads_out(floor, rows, at, place) {
+            self.list[self.count] = place as u16;
+            self.count += 1;
+        }
     }
-    n
-}
 
-// The places of all moves that lead out, in cell, then direction order.
-fn put_all(floor: Floor, rows: &[u64], outs: &mut [u16]) -> usize
-    requires { (floor.height ≤ length rows.now) × (4 * (floor.height * floor.width) ≤ length outs.old) }
-    ensures { Outs (floor_plan floor.entry) (Marked floor.entry.width rows.now) outs.new result (4 * (floor.entry.height * floor.entry.width)) }
-{
-    let mut at = Spot { row: 0, column: 0 };
-    let mut count = 0;
-    for u in 0..floor.height * floor.width {
-        count = put_four(floor, rows, outs, count, at, u);
-        at = plan::onward(floor.width, at);
+    // Puts the places of a cell's moves that lead out. The compiler unrolls its loop, and each direction has its own test.
+    fn put_four(&mut self, floor: Floor, rows: &[u64], at: Spot, u: usize)
+        requires height_in_bounds { (floor.height ≤ length rows.now) × (u < floor.height * floor.width) × At floor.width u at }
+        requires outs { Outs (floor_plan floor) (Marked floor.width rows.now) self.old.list self.old.count (4 * u) }
+        ensures { Outs (floor_plan floor.entry) (Marked floor.entry.width rows.now) self.new.list self.new.count (4 * (u + 1)) }
+    {
+        for d in 0..4 {
+            self.put_out(floor, rows, at, 4 * u + d);
+        }
     }
-    count
+
+    // Puts the places of all moves that lead out, in cell, then direction order.
+    fn put_all(&mut self, floor: Floor, rows: &[u64])
+        requires { (floor.height ≤ length rows.now) × (self.old.count ≡ 0) }
+        ensures { Outs (floor_plan floor.entry) (Marked floor.entry.width rows.now) self.new.list self.new.count (4 * (floor.entry.height * floor.entry.width)) }
+    {
+        let mut at = Spot { row: 0, column: 0 };
+        for u in 0..floor.height * floor.width {
+            self.put_four(floor, rows, at, u);
+            at = plan::onward(floor.width, at);
+        }
+    }
 }
 
 // Refuses a plan and a cell of it by the first rule that they break.
@@ -209,16 +212,18 @@ fn report(
     if rows.len() < floor.height {
         return Err(Refusal::Room);
     }
-    let mut bits = [0u64; 64];
-    let mut list = [0u16; 4096];
-    let mut outs = [0u16; 16384];
-    fill(floor, hunter, &mut bits, &mut list);
-    let count = put_all(floor, &bits, &mut outs);
+    let bits = fill(floor, hunter);
+    let mut outs = Places {
+        list: [0; 16384],
+        count: 0,
+    };
+    outs.put_all(floor, &bits);
+    let count = outs.count;
     if moves.len() < count {
         return Err(Refusal::Room);
     }
     rows[..floor.height].copy_from_slice(&bits[..floor.height]);
-    moves[..count].copy_from_slice(&outs[..count]);
+    moves[..count].copy_from_slice(&outs.list[..count]);
     Ok(Counts {
         cells: count_of(&bits[..floor.height]),
         moves: count,

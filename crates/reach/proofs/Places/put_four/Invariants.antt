@@ -3,7 +3,7 @@ use Rattle.std.proofs.Common.{◌+◌, ◌*◌}
 use Rattle.plan.specs.Floors.{floor_plan}
 use Rattle.reach.specs.Bits.{Marked}
 use Rattle.reach.specs.Outs.{Outs}
-use Rattle.reach.proofs.put_four.Given as goal
+use Rattle.reach.proofs.Places.put_four.Given as goal
 
 abbrev pub invariant-loop-d : goal.invariant-loop-d
-invariant-loop-d l = Outs (floor_plan l.floor) (Marked l.floor.width l.rows) l.outs l.n (4 * l.u + l.d)
+invariant-loop-d l = Outs (floor_plan l.floor) (Marked l.floor.width l.rows) l.self.list l.self.count (4 * l.u + l.d)

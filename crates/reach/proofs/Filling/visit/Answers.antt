@@ -10,7 +10,7 @@ use Rattle.plan.proofs.MoveLaws.{open_stays, entered_in, moved_at}
 use Rattle.reach.specs.Filling.{cell_by, Within}
 use Rattle.reach.proofs.SpotLaws.{marked_asks, move_asks}
 use Rattle.reach.proofs.FillLaws.{in_plan, new_asks, one_new}
-use Rattle.reach.proofs.visit.Goals as goal
+use Rattle.reach.proofs.Filling.visit.Goals as goal
 
 -- The spot of x, a cell of the list.
 stands : {width height x : ℕ} → Within width height x → At width (cell_by width x) (record { row = x / 64; column = x % 64 })
@@ -33,27 +33,27 @@ pub is_marked-requires : goal.is_marked-requires
 is_marked-requires c =
     let w = c.requires.within in
     let inside = entered_in _ c.args.floor.obeys _ _ (in_plan w.0) w.1 (keeps_in c.args.floor.obeys w.0 w.1 c.if-floor-row.false) in
-    marked_asks c.args.floor.obeys inside (there c.args.floor.obeys w.0 w.1 c.if-floor-row.false c.moved-to.ensures) c.args.rows.now c.requires.filled.rowed
+    marked_asks c.args.floor.obeys inside (there c.args.floor.obeys w.0 w.1 c.if-floor-row.false c.moved-to.ensures) c.args.self.now.rows c.requires.filled.rowed
 
-pub returns-then-is_marked-clause-looks : goal.returns-then-is_marked-clause-looks
-returns-then-is_marked-clause-looks c =
+pub returns-else-not-is_marked-clause-looks : goal.returns-else-not-is_marked-clause-looks
+returns-else-not-is_marked-clause-looks c =
     let w = c.requires.within in
-    λ _. (c.is_marked.ensures _ _ (there c.args.floor.obeys w.0 w.1 c.if-floor-row.false c.moved-to.ensures)).so c.if-is_marked.true
+    λ _. (c.is_marked.ensures _ _ (there c.args.floor.obeys w.0 w.1 c.if-floor-row.false c.moved-to.ensures)).so c.if-not-is_marked.false
 
 pub mark-requires : goal.mark-requires
 mark-requires c =
     let w = c.requires.within in
     let at = there c.args.floor.obeys w.0 w.1 c.if-floor-row.false c.moved-to.ensures in
-    new_asks c.args.floor.obeys c.requires.filled w.0 w.1 c.if-floor-row.false at (refuted (c.is_marked.ensures _ _ at) c.if-is_marked.false)
+    new_asks c.args.floor.obeys c.requires.filled w.0 w.1 c.if-floor-row.false at (refuted (c.is_marked.ensures _ _ at) c.if-not-is_marked.true)
 
-pub returns-clause-grown : goal.returns-clause-grown
-returns-clause-grown c =
+pub returns-then-not-is_marked-clause-grown : goal.returns-then-not-is_marked-clause-grown
+returns-then-not-is_marked-clause-grown c =
     let w = c.requires.within in
     let at = there c.args.floor.obeys w.0 w.1 c.if-floor-row.false c.moved-to.ensures in
-    (one_new c.args.floor.obeys c.requires.filled w.0 w.1 c.if-floor-row.false at (refuted (c.is_marked.ensures _ _ at) c.if-is_marked.false) c.mark.ensures).0
+    (one_new c.args.floor.obeys c.requires.filled w.0 w.1 c.if-floor-row.false at (refuted (c.is_marked.ensures _ _ at) c.if-not-is_marked.true) c.mark.ensures).0
 
-pub returns-clause-looks : goal.returns-clause-looks
-returns-clause-looks c =
+pub returns-then-not-is_marked-clause-looks : goal.returns-then-not-is_marked-clause-looks
+returns-then-not-is_marked-clause-looks c =
     let w = c.requires.within in
     let at = there c.args.floor.obeys w.0 w.1 c.if-floor-row.false c.moved-to.ensures in
-    (one_new c.args.floor.obeys c.requires.filled w.0 w.1 c.if-floor-row.false at (refuted (c.is_marked.ensures _ _ at) c.if-is_marked.false) c.mark.ensures).1
+    (one_new c.args.floor.obeys c.requires.filled w.0 w.1 c.if-floor-row.false at (refuted (c.is_marked.ensures _ _ at) c.if-not-is_marked.true) c.mark.ensures).1
