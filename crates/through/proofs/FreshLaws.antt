@@ -20,10 +20,11 @@ use Rattle.plan.specs.Grid.{graph_of}
 use Rattle.plan.proofs.GridLaws.{graph_laws}
 use Rattle.plan.proofs.MoveLaws.{area}
 use Rattle.tables.specs.declared.Session.{Session}
-use Rattle.tables.specs.Lent.{Tables, tables, frame_of_size, core, Fits}
+use Rattle.tables.specs.Lent.{Tables, tables, frame, frame_of_size, core, Fits}
 use Rattle.entries.specs.declared.Aim.{Aim}
 use Rattle.entries.specs.Aims.{aim_by, aim_of, AimOf, Aimed}
-use Rattle.entries.specs.Begin.{Openable, begun, Opened}
+use Rattle.entries.specs.Begin.{Openable, placed_on, begun, Opened}
+use Rattle.entries.proofs.BeginLaws.{opened_on}
 use Rattle.steps.specs.Loop.{Started, Finished}
 use Rattle.through.specs.Through.{LeastCost, none_leads, costs, cost_in, Readable}
 
@@ -73,8 +74,15 @@ module _ {width height from to : ℕ} {plan : List ℕ} (O : Obeys (plan_of widt
   pub wide : {r : Session} → r ≡ begun (frame_of_size width height) from to → 1 ≤ r.width
   wide e = omega (arith, ap (λ (s : Session). s.width) e, O.size.wide)
 
-  module _ {r : Session} {a : Aim} {g₀ rhs₀ parent₀ k1₀ k2₀ place₀ list₀ g₁ rhs₁ parent₁ k1₁ k2₁ place₁ list₁ : List ℕ} (e : r ≡ begun (frame_of_size width height) from to)
-      (P : Opened (frame_of_size width height) from to (tables plan g₀ rhs₀ parent₀ k1₀ k2₀ place₀ list₀) (tables plan g₁ rhs₁ parent₁ k1₁ k2₁ place₁ list₁)) (A : AimOf r a) where
+  module _ {s r : Session} {a : Aim} {g₀ rhs₀ parent₀ k1₀ k2₀ place₀ list₀ g₁ rhs₁ parent₁ k1₁ k2₁ place₁ list₁ : List ℕ} (q : s ≡ placed_on (frame_of_size width height) from to)
+      (B : (r ≡ begun (frame s) s.hunter s.target) × Opened (frame s) s.hunter s.target (tables plan g₀ rhs₀ parent₀ k1₀ k2₀ place₀ list₀) (tables plan g₁ rhs₁ parent₁ k1₁ k2₁ place₁ list₁))
+      (A : AimOf r a) where
+    e : r ≡ begun (frame_of_size width height) from to
+    e = (opened_on q B).0
+
+    P : Opened (frame_of_size width height) from to (tables plan g₀ rhs₀ parent₀ k1₀ k2₀ place₀ list₀) (tables plan g₁ rhs₁ parent₁ k1₁ k2₁ place₁ list₁)
+    P = (opened_on q B).1
+
     abbrev t₁ : Tables
     t₁ = tables plan g₁ rhs₁ parent₁ k1₁ k2₁ place₁ list₁
 

@@ -4,18 +4,21 @@ use mathlib.Core.Logic.{◌≢◌}
 use mathlib.Core.List.{List, [], ◌∷◌, ◌++◌}
 use Prim.Native.Nat.{ℕ, ◌+◌, ◌*◌, ◌≤◌, ◌<◌}
 use native.Mathlib.Omega.{arith}
+use Rattle.std.specs.Prelude.{Option, Some, None}
+use Rattle.decide.specs.Ruled.{Ruled, holds, Passed}
 use Rattle.decide.proofs.RuledLaws.{passed_one, ruled_one, granted, passed_zero, onward}
-use Rattle.method.specs.Numbers.{infinite, growth}
+use lib.ListN.{length}
+use Rattle.method.specs.Numbers.{growth}
 use Rattle.method.specs.Graph.{Graph, Comes}
 use Rattle.method.specs.Walk.{Chain, stay, go}
 use Rattle.plan.specs.Directions.{opposite}
-use Rattle.plan.specs.Cells.{Stays, entered}
-use Rattle.plan.specs.Costs.{Plan, plan_of, byte, shut, Obeys}
+use Rattle.plan.specs.Cells.{Size, Stays, entered}
+use Rattle.plan.specs.Costs.{Plan, plan_of, byte, shut, Bytes, Edges, Obeys}
 use Rattle.plan.specs.Grid.{graph_of}
 use Rattle.plan.specs.Toward.{Leads}
 use Rattle.plan.proofs.MoveLaws.{cost_of}
 use Rattle.plan.proofs.TowardLaws.{one_direction, leads_open, open_leads}
-use Rattle.through.specs.Through.{Uses, here, later, LeastThrough, NoneThrough, LeastCost, none_leads, costs, ThroughRules}
+use Rattle.through.specs.Through.{Uses, here, later, LeastThrough, NoneThrough, LeastCost, none_leads, costs, Askable, ThroughRules}
 
 -- ---- a walk cut at a move
 
@@ -81,10 +84,8 @@ module _ {p : Plan} (O : Obeys p) {u d : ℕ} (small : d < 4) (S : Stays p.width
   cost_is i = let q = open_leads p O.size.wide i in q.2 ∙ ap (byte p u) (one_direction O.size.wide q.1 leads)
 
   -- The least cost through the move is the least cost to it, its own, and the least cost on from it ..
-  pub least_through : {h t x y : ℕ} → LeastCost p h u x → x ≢ infinite → LeastCost p (entered p.width u d) t y → y ≢ infinite → LeastThrough p h t u (entered p.width u d) (x + byte p u d + y)
-  least_through (none_leads _) n B m = absurd (n refl)
-  least_through (costs _ A) n (none_leads _) m = absurd (m refl)
-  least_through (costs _ A) n (costs _ B) m = record {
+  pub least_sum : {h t x y : ℕ} → LeastCost p h u (Some x) → LeastCost p (entered p.width u d) t (Some y) → LeastThrough p h t u (entered p.width u d) (x + byte p u d + y)
+  least_sum (costs _ A) (costs _ B) = record {
     over = _;
     leads = joined A.leads moves B.leads;
     uses = uses_joined A.leads B.leads;
@@ -92,34 +93,21 @@ module _ {p : Plan} (O : Obeys p) {u d : ℕ} (small : d < 4) (S : Stays p.width
   }
 
 -- .. and there is no walk where no chain leads to it, or none on from it.
-pub none_to : {p : Plan} {h t u v x : ℕ} → LeastCost p h u x → x ≡ infinite → NoneThrough p h t u v
-none_to (none_leads n) e l c w i = let q = cut w i in n _ _ q.leads_to
-none_to (costs s A) e l c w i = absurd (omega arith)
+pub none_to : {p : Plan} {h t u v : ℕ} → LeastCost p h u None → NoneThrough p h t u v
+none_to (none_leads n) l c w i = let q = cut w i in n _ _ q.leads_to
 
-pub none_on : {p : Plan} {h t u v y : ℕ} → LeastCost p v t y → y ≡ infinite → NoneThrough p h t u v
-none_on (none_leads n) e l c w i = let q = cut w i in n _ _ q.leads_on
-none_on (costs s A) e l c w i = absurd (omega arith)
+pub none_on : {p : Plan} {h t u v : ℕ} → LeastCost p v t None → NoneThrough p h t u v
+none_on (none_leads n) l c w i = let q = cut w i in n _ _ q.leads_on
 
 -- A least cost from a cell known by another name.
-pub cost_from : {p : Plan} {a a' b x : ℕ} → a ≡ a' → LeastCost p a b x → LeastCost p a' b x
+pub cost_from : {p : Plan} {a a' b : ℕ} {x : Option ℕ} → a ≡ a' → LeastCost p a b x → LeastCost p a' b x
 cost_from {p} {b = b} {x = x} e A = subst (λ y. LeastCost p y b x) e A
 
--- A least cost that is not infinite is small.
-pub cost_small : {p : Plan} {a b x : ℕ} → LeastCost p a b x → x ≢ infinite → x ≤ growth
-cost_small (none_leads _) n = absurd (n refl)
-cost_small (costs s A) n = s
+-- A least cost is small.
+pub cost_small : {p : Plan} {a b x : ℕ} → LeastCost p a b (Some x) → x ≤ growth
+cost_small (costs s A) = s
 
 -- ---- the rules
-
--- No rule is broken.
-pub record Askable (width height hunter target : ℕ) (plan : List ℕ) (cell direction : ℕ) : Type 0 where
-  pub obeys : Obeys (plan_of width height plan)
-  pub hunter_in : hunter < height * width
-  pub target_in : target < height * width
-  pub cell_in : cell < height * width
-  pub small : direction < 4
-  pub stays_in : Stays width height cell direction
-  pub opens : byte (plan_of width height plan) cell direction ≢ shut
 
 module _ {width height hunter target : ℕ} (plan : List ℕ) {cell direction k : ℕ} (rules : ThroughRules width height hunter target plan cell direction k) where
   -- They give one number ..
@@ -153,3 +141,12 @@ module _ {width height hunter target : ℕ} (plan : List ℕ) {cell direction k 
       (onward (A.hunter_in, A.target_in, A.cell_in)
       (onward A.obeys.sized
       (onward A.obeys.size rules)))))
+
+-- Where all rules before it hold, the last one is left.
+pub last_rule : {width height hunter target : ℕ} (plan : List ℕ) {cell direction k : ℕ} → Size width height → length plan ≡ 4 * (height * width)
+    → (hunter < height * width) × (target < height * width) × (cell < height * width) → (direction < 4) × Stays width height cell direction → Edges (plan_of width height plan)
+    → Ruled (Bytes (plan_of width height plan) × (byte (plan_of width height plan) cell direction ≢ shut)) 5 Passed k → ThroughRules width height hunter target plan cell direction k
+last_rule plan z l i m e r = holds z (holds l (holds i (holds (m.0, m.1, e) r)))
+
+-- By these the sum of two least costs is proved.
+pub ruleset adding = (cost_small, cost_of)

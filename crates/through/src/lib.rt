@@ -2,28 +2,32 @@
 #![tactic(auto)]
 
 ghost use Rattle.std.specs.Prelude.{◌≡◌, ◌*◌, ◌<◌};
+ghost use Rattle.refusal.specs.Numbers.{number_in};
+ghost use Rattle.plan.specs.Cells.{entered};
 ghost use Rattle.plan.specs.Costs.{plan_of, Obeys};
 ghost use Rattle.tables.specs.Lent.{tables, Fits};
-ghost use Rattle.through.specs.Through.{cost_in, Readable, LeastCost, ThroughRules, Passes};
+ghost use Rattle.through.specs.Through.{cost_in, Readable, LeastCost, Askable, ThroughRules, Answers, Passes};
 
 use entries;
 use plan;
 use queue::ABSENT;
+use refusal::Refusal;
 use steps;
 use tables::INFINITE;
 
-// What one cell's rhs is above another's, INFINITE if it is infinite.
-fn cost_in(rhs: &[u32], from: usize, to: usize) -> u32
+// What one cell's rhs is above another's, none if it is infinite.
+#[tactic(auto, using(decide::proofs::ChooseLaws::choose_yes, decide::proofs::ChooseLaws::choose_no), unfolding(crate::specs::Through::cost_in))]
+fn cost_in(rhs: &[u32], from: usize, to: usize) -> Option<u32>
     requires { Readable rhs.now from to }
     ensures { result ≡ cost_in rhs.now from to }
 {
     if rhs[to] == INFINITE {
-        return INFINITE;
+        return None;
     }
-    rhs[to] - rhs[from]
+    Some(rhs[to] - rhs[from])
 }
 
-// The least cost from one cell to another, INFINITE if no chain of open moves leads there: a fresh start and the search's own loop, on lent tables.
+// The least cost from one cell to another, none if no chain of open moves leads there: a fresh start and the search's own loop, on lent tables.
 fn searched(
     width: usize,
     height: usize,
@@ -37,7 +41,7 @@ fn searched(
     k2: &mut [u32],
     place: &mut [u16],
     list: &mut [u16],
-) -> u32
+) -> Option<u32>
     requires obeys { Obeys (plan_of width height plan.now) }
     requires from_bound { (from < height * width) × (to < height * width) }
     requires fits { Fits (height * width) (tables plan.now g.old rhs.old parent.old k1.old k2.old place.old list.old) }
@@ -64,7 +68,7 @@ fn searched(
 }
 
 // The same on tables of its own.
-fn least_cost(width: usize, height: usize, from: usize, to: usize, plan: &[u8]) -> u32
+fn least_cost(width: usize, height: usize, from: usize, to: usize, plan: &[u8]) -> Option<u32>
     requires obeys { Obeys (plan_of width height plan.now) }
     requires from_bound { (from < height * width) × (to < height * width) }
     ensures { LeastCost (plan_of width height plan.now) from to result }
@@ -93,16 +97,9 @@ fn least_cost(width: usize, height: usize, from: usize, to: usize, plan: &[u8]) 
     )
 }
 
-// The least cost of a walk, none, or refused with document 01's number.
-#[derive(Clone, Copy)]
-pub enum Passing {
-    Cost(u32),
-    NoWalk,
-    Refused(u8),
-}
-
-// The number of the first rule that the question breaks, 0 if none.
-fn through_refusal(
+// The least cost of any walk from hunter to target through a move that can be asked about: there, the move, and on from it.
+#[tactic(auto, using(crate::proofs::ThroughLaws::adding))]
+fn least_through(
     width: usize,
     height: usize,
     hunter: usize,
@@ -110,45 +107,52 @@ fn through_refusal(
     plan: &[u8],
     cell: usize,
     direction: usize,
-) -> u8
-    ensures { ThroughRules width height hunter target plan.now cell direction result }
+) -> Option<u32>
+    requires { Askable width height hunter target plan.now cell direction }
+    ensures { Answers (plan_of width height plan.now) hunter target cell (entered width cell direction) (Ok result) }
+{
+    let there = least_cost(width, height, hunter, cell, plan)?;
+    let next = plan::entered(width, cell, direction);
+    let onward = least_cost(width, height, next, target, plan)?;
+    Some(there + plan[4 * cell + direction] as u32 + onward)
+}
+
+// Are the plan, the cells and the move what the question asks for, and is the move open?
+#[tactic(auto, using(decide::proofs::RuledLaws::in_order))]
+fn check(
+    width: usize,
+    height: usize,
+    hunter: usize,
+    target: usize,
+    plan: &[u8],
+    cell: usize,
+    direction: usize,
+) -> Result<(), Refusal>
+    ensures { ThroughRules width height hunter target plan.now cell direction (number_in result) }
 {
     if !plan::is_size(width, height) {
-        return 1;
+        return Err(Refusal::Size);
     }
     let cells = height * width;
     if plan.len() != 4 * cells {
-        return 2;
+        return Err(Refusal::Length);
     }
-    if cells <= hunter {
-        return 3;
+    if cells <= hunter || cells <= target || cells <= cell {
+        return Err(Refusal::Cell);
     }
-    if cells <= target {
-        return 3;
-    }
-    if cells <= cell {
-        return 3;
-    }
-    if 3 < direction {
-        return 4; // no direction
-    }
-    let at = plan::spot_of(width, cell);
-    if !plan::stays_in(width, height, at, direction) {
-        return 4;
-    }
-    if !plan::edges_hold(width, height, plan) {
-        return 4;
+    if !plan::is_move(width, height, cell, direction) || !plan::edges_hold(width, height, plan) {
+        return Err(Refusal::Move);
     }
     if !plan::bytes_hold(width, height, plan) {
-        return 5;
+        return Err(Refusal::Cost);
     }
     if plan[4 * cell + direction] == plan::SHUT {
-        return 5;
+        return Err(Refusal::Cost);
     }
-    0
+    Ok(())
 }
 
-// The least cost of any walk from hunter to target through the move from a cell in a direction.
+// The least cost of any walk from hunter to target through the move from a cell in a direction, none if there is no such walk.
 pub fn through(
     width: usize,
     height: usize,
@@ -157,22 +161,9 @@ pub fn through(
     plan: &[u8],
     cell: usize,
     direction: usize,
-) -> Passing
+) -> Result<Option<u32>, Refusal>
     ensures { Passes width height hunter target plan.now cell direction result }
 {
-    let number = through_refusal(width, height, hunter, target, plan, cell, direction);
-    if number != 0 {
-        return Passing::Refused(number);
-    }
-    let cost = plan[4 * cell + direction] as u32;
-    let there = least_cost(width, height, hunter, cell, plan);
-    if there == INFINITE {
-        return Passing::NoWalk;
-    }
-    let next = plan::entered(width, cell, direction);
-    let onward = least_cost(width, height, next, target, plan);
-    if onward == INFINITE {
-        return Passing::NoWalk;
-    }
-    Passing::Cost(there + cost + onward)
+    check(width, height, hunter, target, plan, cell, direction)?;
+    Ok(least_through(width, height, hunter, target, plan, cell, direction))
 }

@@ -1,18 +1,18 @@
 -- A fresh start (`begin`), the loop (`run`) and the rhs that it leaves give the least cost (FreshLaws).
 use mathlib.Core.Path.{sym, subst}
-use Rattle.entries.proofs.BeginLaws.{opened_on}
 use Rattle.through.specs.Through.{LeastCost}
 use Rattle.through.proofs.FreshLaws.{run_started, readable, least_in}
 use Rattle.through.proofs.searched.Goals as goal
 
 pub run-requires-clause-started : goal.run-requires-clause-started
-run-requires-clause-started c = let o = opened_on c.placed_on-placed.ensures c.begin-begun.ensures in
-    run_started c.requires.obeys c.requires.from_bound.0 c.requires.from_bound.1 o.0 o.1 c.aim_of-a.ensures
+run-requires-clause-started c =
+    run_started c.requires.obeys c.requires.from_bound.0 c.requires.from_bound.1 c.placed_on-placed.ensures c.begin-begun.ensures c.aim_of-a.ensures
 
 pub cost_in-requires : goal.cost_in-requires
-cost_in-requires c = let o = opened_on c.placed_on-placed.ensures c.begin-begun.ensures in
-    readable c.requires.obeys c.requires.from_bound.0 c.requires.from_bound.1 o.0 o.1 c.aim_of-a.ensures c.run.ensures
+cost_in-requires c =
+    readable c.requires.obeys c.requires.from_bound.0 c.requires.from_bound.1 c.placed_on-placed.ensures c.begin-begun.ensures c.aim_of-a.ensures c.run.ensures
 
 pub returns : goal.returns
-returns c = let o = opened_on c.placed_on-placed.ensures c.begin-begun.ensures in
-    subst (LeastCost _ _ _) (sym c.cost_in.ensures) (least_in c.requires.obeys c.requires.from_bound.0 c.requires.from_bound.1 o.0 o.1 c.aim_of-a.ensures c.run.ensures)
+returns c =
+    subst (LeastCost _ _ _) (sym c.cost_in.ensures)
+    (least_in c.requires.obeys c.requires.from_bound.0 c.requires.from_bound.1 c.placed_on-placed.ensures c.begin-begun.ensures c.aim_of-a.ensures c.run.ensures)
