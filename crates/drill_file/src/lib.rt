@@ -94,14 +94,13 @@ fn action_of(kind: u8, cell: usize, direction: u8, cost: u8) -> Option<Action>
 }
 
 // The action at a place of a file; none where it is badly formed or the file ends before it does.
-#[tactic(auto, using(crate::proofs::FileLaws::action_past, crate::proofs::FileLaws::action_there))]
+#[tactic(auto, using(crate::proofs::FileLaws::action_past))]
 fn action_at(file: &[u8], at: usize) -> Option<Action>
     ensures { result ≡ action_at file.now at }
 {
-    if file.len() < ACTION || file.len() - ACTION < at {
-        return None;
-    }
-    action_of(file[at], two_at(file, at + 1), file[at + 3], file[at + 4])
+    let [kind, low, high, direction, cost] = *file.get(at..)?.first_chunk::<ACTION>()?;
+    let cell = u16::from_le_bytes([low, high]);
+    action_of(kind, usize::from(cell), direction, cost)
 }
 
 // A reader holds the file and its place in it.

@@ -10,11 +10,8 @@ use lib.Seq.{get_or-append-add, take-add}
 use Rattle.std.specs.Prelude.{Option}
 use Rattle.decide.proofs.ChooseLaws.{choose_yes}
 use Rattle.drill_file.specs.declared.Action.{Action}
-use Rattle.drill_file.specs.File.{two, action_of, action_at, actions_from}
-
--- An action of equal parts.
-same_action : {kind kind' cell cell' d d' cost cost' : ℕ} → kind ≡ kind' → cell ≡ cell' → d ≡ d' → cost ≡ cost' → action_of kind cell d cost ≡ action_of kind' cell' d' cost'
-same_action a b c e = rw (a, b, c, e)
+use Rattle.drill_file.specs.File.{two, action_at, actions_from}
+use Rattle.drill_file.proofs.FileLaws.{same_action}
 
 module _ (a b c : List ℕ) where
   -- The length of the three ..
