@@ -1,6 +1,5 @@
 -- The first least sum, direction by direction.
 use mathlib.Core.Path.{◌≡◌, refl, sym, ◌∙◌}
-use mathlib.Core.Logic.{⊎_elim}
 use mathlib.Core.List.{List, [], ◌∷◌}
 use Prim.Native.Nat.{ℕ, ◌+◌, ◌≤◌, ◌<◌}
 use native.Mathlib.Numerals.{add-one}
@@ -8,14 +7,13 @@ use native.Mathlib.Omega.{arith}
 use native.Mathlib.Decide.{dec_lt}
 use lib.ListN.{get_or}
 use Rattle.decide.proofs.ChooseLaws.{choose_yes, choose_no}
-use Rattle.method.specs.Numbers.{infinite, most_cost}
+use Rattle.method.specs.Numbers.{most_cost}
 use Rattle.method.specs.Graph.{Move, move}
 use Rattle.method.specs.Tables.{Found, found, better, least_over}
 use Rattle.method.proofs.Appending.{least_over_append}
 use Rattle.plan.specs.Costs.{Plan, cells, Obeys}
 use Rattle.plan.specs.Grid.{into_by, up_to}
 use Rattle.plan.proofs.GridLaws.{into_reach, open_from_in}
-use Rattle.entries.specs.Aims.{Small}
 
 -- no move is looked at, or one
 pub looked_shut : (g : List ℕ) (f : Found) {l : List Move} → [] ≡ l → f ≡ least_over g f l
@@ -33,10 +31,6 @@ looked_taken g f {k} {v} {c} e is h = rw (← e, is) (sym (choose_yes (dec_lt (g
 -- the neighbour of an open move, and its cost
 pub neighbour_in : (p : Plan) → Obeys p → (s d : ℕ) {k v c : ℕ} → d < 4 → move k v c ∷ [] ≡ into_by p s d → (v < cells p) × (c ≤ most_cost)
 neighbour_in p O s d l e = let o = into_reach p O.size.wide s d l e in (open_from_in p O.size.wide o, o.a_cost.1)
-
--- a finite g leaves room for a cost
-pub finite_small : (l : List ℕ) {bound : ℕ} → Small bound l → (k : ℕ) → (get_or l k 0 ≡ infinite → ⊥) → get_or l k 0 ≤ bound
-finite_small l {bound} S k n = ⊎_elim (λ (e : get_or l k 0 ≡ infinite). absurd (n e)) (λ (h : get_or l k 0 ≤ bound). h) (S k)
 
 -- one direction more
 pub looked_more : (g : List ℕ) (f : Found) (m : ℕ → List Move) (d : ℕ) {b r : Found} → b ≡ least_over g f (up_to m d) → r ≡ least_over g b (m d) → r ≡ least_over g f (up_to m (d + 1))

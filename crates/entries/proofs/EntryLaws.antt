@@ -11,13 +11,12 @@ use Rattle.decide.proofs.ChooseLaws.{choose_yes, choose_no}
 use Rattle.method.specs.Numbers.{infinite}
 use Rattle.method.specs.Tables as method
 use Rattle.method.proofs.Entries.{first_finite}
-use Rattle.queue.specs.Queue.{absent, members, Heap, Changed, EntryKept}
+use Rattle.queue.specs.Queue.{absent, members, Changed, EntryKept}
 use Rattle.queue.proofs.MemberLaws.{missing, member_at, place_member}
 use Rattle.queue.proofs.QueueLaws.{heap_as, changed_nothing, absent_stays}
-use Rattle.plan.specs.Reached.{Placed, between}
+use Rattle.plan.specs.Reached.{between}
 use Rattle.plan.specs.declared.Spot.{Spot}
 use Rattle.plan.proofs.EstimateLaws.{estimate_le}
-use Rattle.plan.proofs.MoveLaws.{placed}
 use Rattle.tables.specs.declared.Ahead.{Ahead}
 use Rattle.tables.specs.Lent.{lent, core}
 use Rattle.tables.proofs.WalkLaws.{estimate_at}
@@ -27,13 +26,6 @@ use Rattle.entries.specs.Became.{Sited, KeyFits, EnteringIn, Entered}
 
 -- A cell whose key is to be calculated.
 module _ {a : Aim} {cell : ℕ} {at : Spot} {g rhs : List ℕ} (S : Sited a cell at g rhs) where
-  -- the spots between which it is estimated
-  pub spots_placed : Placed at × Placed a.target_at
-  spots_placed =
-      let q = placed S.size S.stands S.inside in
-      let t = placed S.size S.target_at S.target_in in
-      (record { row = q.0; column = q.1 }, record { row = t.0; column = t.1 })
-
   -- the code's sum stays below infinite
   pub key_room : {m : ℕ} → KeyFits a g rhs cell → m ≡ min (get_or g cell 0) (get_or rhs cell 0) → m + between at a.target_at + a.km < infinite
   key_room f e = omega (arith, f, e, estimate_at {b = a.target_at} S.stands S.target_at, estimate_le S.size cell a.target S.inside S.target_in)
@@ -58,10 +50,6 @@ module _ {a : Aim} {count cell : ℕ} {at : Spot} {g : List ℕ} (t : Ahead) (E 
 
   pub cell_listed : cell < length t.list.now
   cell_listed = omega (arith, E.sited.inside, E.heap.tables.agree.length_list)
-
-  -- the heap, as the queue's calls take it
-  pub heap_here : Heap a.width (length t.list.now) count t.k1.now t.k2.now t.place.now t.list.now
-  heap_here = heap_as E.heap (sym E.heap.tables.agree.length_list) refl
 
   -- what a change of the queue makes of the tables
   entered_by : {t' : Ahead} {room r first second : ℕ} {q : Bool} {k1 k2 place list : List ℕ} → room ≡ area a

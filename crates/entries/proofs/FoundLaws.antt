@@ -111,9 +111,6 @@ pub taking : {a : Aim} {count cell : ℕ} {at : Spot} {f : Found} {plan g : List
     → (f.rhs ≡ infinite) ⊎ (f.rhs ≤ most_rhs) → Taking a count cell at f g t
 taking {f = f} S h = record { entering = entering (ready_set f.rhs f.parent S h); long_parent = S.ready.held.sized.parent }
 
-pub rhs_long : {a : Aim} {count cell : ℕ} {at : Spot} {f : Found} {g : List ℕ} {t : Ahead} → Taking a count cell at f g t → cell < length t.rhs.now
-rhs_long {cell = cell} {f = f} {t = t} T = omega (arith, T.entering.sited.inside, T.entering.sited.long_rhs, length-set t.rhs.now cell f.rhs)
-
 pub became_as : {a : Aim} {count : ℕ} {t : Tables} {m m' : method.Tables} → Became a count t m → m ≡ m' → Became a count t m'
 became_as B e = record { is = B.is ∙ e; heap = B.heap }
 

@@ -1,9 +1,8 @@
 -- Tables filled with one number, and the tables as at a fresh start.
 use mathlib.Core.Path.{◌≡◌, refl, sym, ap, ◌∙◌}
 use mathlib.Core.Bool.{Bool, true, false}
-use mathlib.Core.Logic.{◌⊎◌, inl, inr}
 use mathlib.Core.List.{List, ◌∷◌}
-use Prim.Native.Nat.{ℕ, zero, suc, ◌≤◌, ◌<◌}
+use Prim.Native.Nat.{ℕ, zero, suc, ◌<◌}
 use native.Mathlib.Omega.{arith}
 use native.Mathlib.Decide.{ℕ_discrete}
 use lib.ListN.{length, get_or, set, replicate, length-replicate, get_or-replicate, length-set}
@@ -12,32 +11,19 @@ use Rattle.decide.proofs.ChooseLaws.{choose_no}
 use Rattle.method.specs.Numbers.{infinite}
 use Rattle.method.specs.Tables as method
 use Rattle.method.specs.Session.{blank, fresh}
-use Rattle.queue.specs.Queue.{absent, is_place, members, Heap}
+use Rattle.queue.specs.Queue.{absent, is_place, members}
 use Rattle.queue.proofs.MemberLaws.{tally, tally_none, tally_less}
 use Rattle.queue.proofs.PlaceLaws.{counted}
-use Rattle.queue.proofs.QueueLaws.{empty_heap}
-use Rattle.plan.specs.Reached.{At}
-use Rattle.plan.specs.declared.Spot.{Spot}
-use Rattle.plan.proofs.MoveLaws as moves
 use Rattle.tables.specs.Lent.{Tables, tables, Fits, graph_in, core}
 use Rattle.entries.specs.declared.Aim.{Aim}
-use Rattle.entries.specs.Aims.{area, frame_of, hunt, Aimed, Small}
-use Rattle.entries.specs.Became.{Became, Entering}
-use Rattle.entries.proofs.FoundLaws.{entering, ready_set}
+use Rattle.entries.specs.Aims.{area, frame_of, hunt, Aimed}
+use Rattle.entries.specs.Became.{Became}
 
 -- ---- a table of one number
-
-pub filled_long : {xs : List ℕ} (v : ℕ) (old : List ℕ) → xs ≡ replicate (length old) v → length xs ≡ length old
-filled_long v old e = ap length e ∙ length-replicate (length old) v
 
 -- It was as long as there are cells.
 filled_as : {n : ℕ} {xs : List ℕ} (v : ℕ) (old : List ℕ) → length old ≡ n → xs ≡ replicate (length old) v → xs ≡ replicate n v
 filled_as v old e q = q ∙ ap (λ k. replicate k v) e
-
-small_replicate : (n v : ℕ) {bound : ℕ} → (v ≡ infinite) ⊎ (v ≤ bound) → Small bound (replicate n v)
-small_replicate zero v h k = inr (omega arith)
-small_replicate (suc n) v h zero = h
-small_replicate (suc n) v h (suc k) = small_replicate n v h k
 
 set_replicate : (n s v : ℕ) → set (replicate n v) s v ≡ replicate n v
 set_replicate zero s v = refl
@@ -89,42 +75,7 @@ blank_filled {a} {plan} {g₀} {rhs₀} {parent₀} {k1₀} {k2₀} {place₀} {
 }
 
 module _ {a : Aim} {plan : List ℕ} (A : Aimed a plan) where
-  blank_heap : Heap a.width (area a) 0 (replicate (area a) 0) (replicate (area a) 0) (replicate (area a) absent) (replicate (area a) absent)
-  blank_heap =
-      empty_heap A.obeys.size.wide (moves.area A.obeys.size) (length-replicate (area a) 0) (length-replicate (area a) 0) (length-replicate (area a) absent) (length-replicate (area a) absent)
-      (λ c l. (get_or-replicate (area a) c 0 0 l, get_or-replicate (area a) c 0 0 l)) (λ c l. get_or-replicate (area a) c absent 0 l) (λ c l. get_or-replicate (area a) c absent 0 l)
-
-  blank_entering : {at : Spot} → At a.width a.hunter at
-      → Entering a 0 a.hunter at (replicate (area a) infinite) (set (replicate (area a) infinite) a.hunter 0) (replicate (area a) 0) (replicate (area a) 0) (replicate (area a) absent) (replicate (area a) absent)
-  blank_entering s =
-      entering
-      (ready_set {rhs = replicate (area a) infinite} {parent = replicate (area a) 0} 0 0
-      (record {
-        ready = record {
-          aimed = A;
-          held = record {
-            sized = record {
-              g = length-replicate (area a) infinite;
-              rhs = length-replicate (area a) infinite;
-              parent = length-replicate (area a) 0;
-              k1 = length-replicate (area a) 0;
-              k2 = length-replicate (area a) 0;
-              queued = ap length (members_none (area a)) ∙ length-replicate (area a) false;
-            };
-            heap = blank_heap;
-          };
-          small_g = small_replicate (area a) infinite (inl refl);
-          small_rhs = small_replicate (area a) infinite (inl refl);
-        };
-        inside = A.hunter_in;
-        stands = s;
-      })
-      (inr (omega arith)))
-
   module _ {g rhs parent k1 k2 place list : List ℕ} (B : Blank a g rhs parent k1 k2 place list) where
-    pub fresh_entering : {at : Spot} → At a.width a.hunter at → Entering a 0 a.hunter at g (set rhs a.hunter 0) k1 k2 place list
-    fresh_entering s = rw (B.g_is, B.rhs_is, B.k1_is, B.k2_is, B.place_is, B.list_is) (blank_entering s)
-
     blank_core : core (tables plan g (set rhs a.hunter 0) parent k1 k2 place list) ≡ method.with_rhs (blank (area a)) a.hunter 0 0
     unfolding blank
     blank_core = rw (B.g_is, B.rhs_is, B.parent_is, B.k1_is, B.k2_is, B.place_is, members_none (area a), set_replicate (area a) a.hunter 0) refl

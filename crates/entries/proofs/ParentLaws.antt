@@ -53,10 +53,6 @@ directed {a} {s} {k} (by_direction {d} l e m) = record {
     less_one = omega (arith, e)
 
 module _ {a : Aim} {parent : List ℕ} {s : ℕ} (L : Linked a parent s) where
-  -- the byte is a direction plus 1
-  pub linked_code : (1 ≤ get_or parent s 0) × (get_or parent s 0 ≤ 4)
-  linked_code = let D = directed L.named in (D.low, D.high)
-
   -- the neighbour in its direction can be computed
   pub linked_asks : (get_or parent s 0 - 1 < 4) × ((a.width ≤ 64) × (s < most_cells) × (a.width + 1 ≤ s + row_step (get_or parent s 0 - 1) * a.width + column_step (get_or parent s 0 - 1)))
   linked_asks =

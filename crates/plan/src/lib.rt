@@ -5,7 +5,7 @@ ghost use Rattle.std.specs.Prelude.{◌≡◌, ℕ, ◌+◌, ◌*◌, ◌<◌, �
 ghost use Rattle.decide.specs.Decides.{Decides};
 ghost use Rattle.method.specs.Numbers.{most_cells};
 ghost use Rattle.plan.specs.Directions.{shift_of, row_step, column_step, opposite};
-ghost use Rattle.plan.specs.Cells.{Size, Stays, apart, entered as entered_by};
+ghost use Rattle.plan.specs.Cells.{Size, Stays, entered as entered_by};
 ghost use Rattle.plan.specs.Costs.{IsByte, plan_of, Bytes, Edge, Edges, Obeys};
 ghost use Rattle.plan.specs.Obeying.{Obeys-prop};
 ghost use Rattle.plan.specs.Grid.{out_by, into_by};

@@ -3,7 +3,7 @@ use mathlib.Core.Path.{◌≡◌, refl, sym, ap, subst, ◌∙◌}
 use mathlib.Core.Bool.{Bool, true, false}
 use mathlib.Core.Logic.{◌⊎◌, ⊎_elim, ◌≢◌}
 use mathlib.Core.List.{List}
-use Rattle.std.proofs.Common.{Option, Some, None}
+use Rattle.std.proofs.Common.{Option, Some}
 use Prim.Native.Nat.{ℕ, ◌+◌, ◌≤◌, ◌<◌}
 use native.Mathlib.Numerals.{add-one}
 use native.Mathlib.Omega.{arith}
@@ -25,40 +25,19 @@ use Rattle.plan.specs.declared.Spot.{Spot}
 use Rattle.plan.proofs.CellLaws.{stands_row, stands_column}
 use Rattle.plan.proofs.MoveLaws.{placed, moved_at}
 use Rattle.tables.specs.declared.Ahead.{Ahead}
-use Rattle.tables.specs.Lent.{Tables, tables, lent, core}
+use Rattle.tables.specs.Lent.{Tables, tables, core}
 use Rattle.entries.specs.declared.Aim.{Aim}
 use Rattle.entries.specs.Aims.{area, floor, hunt, most_g, most_rhs, Held, Small, Ready, ReadyAt}
-use Rattle.entries.specs.Became.{Became, Entering, obeyed, Taking, Taken}
-use Rattle.entries.proofs.FoundLaws.{small_set, small_more, key_fits, sited, entering, taking, became_as}
+use Rattle.entries.specs.Became.{Became, Taking}
+use Rattle.entries.proofs.FoundLaws.{small_set, small_more, taking, became_as}
 use Rattle.entries.specs.declared.Asked.{Asked}
-use Rattle.choices.specs.Moves.{Enters, Fair, Leaving, Relaxing, Renewing, Keyed}
-use Rattle.steps.specs.Ready.{Facing, Obeying, Obeyed, Lowering, Stepping}
+use Rattle.choices.specs.Moves.{Enters, Fair}
+use Rattle.steps.specs.Ready.{Facing, Obeying, Lowering}
 
 -- ---- what holds of the tables after an inner function
 
 pub became_held : {a : Aim} {count : ℕ} {t : Tables} {m : method.Tables} → method.Sized (area a) m → Became a count t m → Held a count t
 became_held {a} z B = record { sized = subst (method.Sized (area a)) (sym B.is) z; heap = B.heap }
-
--- tables held for one aim have the same lengths
-pub record Lengths (t t' : Tables) : Type 0 where
-  pub g : length t.g ≡ length t'.g
-  pub rhs : length t.rhs ≡ length t'.rhs
-  pub parent : length t.parent ≡ length t'.parent
-  pub k1 : length t.k1 ≡ length t'.k1
-  pub k2 : length t.k2 ≡ length t'.k2
-  pub place : length t.place ≡ length t'.place
-  pub list : length t.list ≡ length t'.list
-
-pub same_lengths : {a : Aim} {count n : ℕ} {t t' : Tables} → Held a count t → Held a n t' → Lengths t t'
-same_lengths H K = record {
-  g = H.sized.g ∙ sym K.sized.g;
-  rhs = H.sized.rhs ∙ sym K.sized.rhs;
-  parent = H.sized.parent ∙ sym K.sized.parent;
-  k1 = H.sized.k1 ∙ sym K.sized.k1;
-  k2 = H.sized.k2 ∙ sym K.sized.k2;
-  place = H.heap.tables.agree.length_place ∙ sym K.heap.tables.agree.length_place;
-  list = H.heap.tables.agree.length_list ∙ sym K.heap.tables.agree.length_list;
-}
 
 -- what holds after d directions of a step, where the method has m
 pub record Looked (a : Aim) (n d : ℕ) (t : Tables) (m : method.Tables) : Type 0 where
@@ -89,24 +68,6 @@ g_set {u = u} {g = g} {rhs = rhs} v S h =
       stands = S.stands;
     }
 
--- ---- one direction of a step
-
-pub facing : {a : Aim} {most count n u d : ℕ} {at : Spot} {t t' : Tables} → ReadyAt a most count u at t → Ready a most_rhs n t' → d < 4 → Facing a n u at d t'
-facing S R l = record { here = record { ready = R; inside = S.inside; stands = S.stands }; direction = l }
-
-module _ {a : Aim} {count u d : ℕ} {at : Spot} {plan g rhs parent k1 k2 place list : List ℕ} (F : Facing a count u at d (tables plan g rhs parent k1 k2 place list)) where
-  leaving : Leaving a plan u d
-  leaving = record { aimed = F.here.ready.aimed; inside = F.here.inside; direction = F.direction }
-
-  pub relaxing : {v : ℕ} → v ≤ most_g → Relaxing a plan rhs v u d
-  relaxing l = record { leaving = leaving; long_rhs = F.here.ready.held.sized.rhs; room = l }
-
-  pub renewing : Renewing a plan g parent u d
-  renewing = record { leaving = leaving; long_g = F.here.ready.held.sized.g; small_g = F.here.ready.small_g; long_parent = F.here.ready.held.sized.parent }
-
-pub obeying : {a : Aim} {count u d : ℕ} {at : Spot} {r : Option Asked} {plan g : List ℕ} {t : Ahead} → Facing a count u at d (lent plan g t) → Fair a u d r → Obeying a count at d r g t
-obeying F f = record { plan = _; u = _; facing = F; fair = f }
-
 -- ---- the cell entered
 
 -- the spot moved to can be computed, and is the cell's
@@ -126,30 +87,15 @@ module _ {a : Aim} {count u d s : ℕ} {at : Spot} {t : Tables} (F : Facing a co
 
 -- ---- what is asked of it is done
 
-module _ {a : Aim} {count : ℕ} {at : Spot} {d : ℕ} {r : Option Asked} {g : List ℕ} {t : Ahead} (O : Obeying a count at d r g t) where
-  pub obeyed_kept : r ≡ None → Obeyed a r g t count t
-  obeyed_kept e = record {
-    became = λ plan. became_as (record { is = refl; heap = O.facing.here.ready.held.heap }) (ap (obeyed (hunt a plan) (core (lent plan g t))) (sym e));
-    small_rhs = O.facing.here.ready.small_rhs;
-  }
+module _ {a : Aim} {count : ℕ} {at : Spot} {d : ℕ} {r : Option Asked} {g : List ℕ} {t : Ahead} {x : Asked} (O : Obeying a count at d r g t) (e : r ≡ Some x) where
+  fair : Fair a O.u d (Some x)
+  fair = subst (Fair a O.u d) e O.fair
 
-  module _ {x : Asked} (e : r ≡ Some x) where
-    fair : Fair a O.u d (Some x)
-    fair = subst (Fair a O.u d) e O.fair
+  pub obeying_move : ((d < 4) × Placed at) × ((1 ≤ at.row + row_step d) × (1 ≤ at.column + column_step d))
+  obeying_move = move_asks O.facing fair.0
 
-    pub obeying_move : ((d < 4) × Placed at) × ((1 ≤ at.row + row_step d) × (1 ≤ at.column + column_step d))
-    obeying_move = move_asks O.facing fair.0
-
-    pub obeying_take : {to : Spot} → (to.row + 1 ≡ at.row + row_step d) × (to.column + 1 ≡ at.column + column_step d) → Taking a count x.cell to x.found g t
-    obeying_take w = taking (entered_ready O.facing fair.0 w) fair.1
-
-    pub obeyed_taken : {n : ℕ} {t' : Ahead} → Taken a x.cell x.found g t n t' → Obeyed a r g t n t'
-    obeyed_taken T =
-        let R = O.facing.here.ready in
-        record {
-          became = λ plan. became_as (T.became plan) (ap (obeyed (hunt a plan) (core (lent plan g t))) (sym e));
-          small_rhs = subst (Small most_rhs) (sym T.rhs_is) (small_set t.rhs.now x.cell x.found.rhs (omega (arith, R.held.sized.rhs, fair.0.inside)) fair.1 R.small_rhs);
-        }
+  pub obeying_take : {to : Spot} → (to.row + 1 ≡ at.row + row_step d) × (to.column + 1 ≡ at.column + column_step d) → Taking a count x.cell to x.found g t
+  obeying_take w = taking (entered_ready O.facing fair.0 w) fair.1
 
 -- ---- the directions of a step, one after the other
 
@@ -229,25 +175,3 @@ module _ (H : Hunt) (T : method.Tables) (u : ℕ) where
       choose_no (dec_lt (method.stored_key T u) (method.calculated_key H T u)) _ _ (λ x. omega (arith, x, ltb-false (method.stored_key T u) (method.calculated_key H T u) (sym e ∙ f)))
       ∙ choose_no (dec_lt (method.rhs_at T u) (method.g_at T u)) _ _ (λ x. omega arith) in
       sym (ap (λ k. stepped_by k H T u) kind)
-
--- the cell of a step, its spot found
-pub step_here : {a : Aim} {count u : ℕ} {at : Spot} {t : Tables} → Stepping a count u t → At a.width u at → ReadyAt a most_g count u at t
-step_here S w = record { ready = S.ready; inside = S.inside; stands = w }
-
--- its entry can be set right
-pub step_entering : {a : Aim} {count u : ℕ} {at : Spot} {plan g rhs parent k1 k2 place list : List ℕ} → Stepping a count u (tables plan g rhs parent k1 k2 place list) → At a.width u at
-    → Entering a count u at g rhs k1 k2 place list
-step_entering {rhs = rhs} S w =
-    let R = S.ready in
-    entering (record { ready = record { aimed = R.aimed; held = R.held; small_g = R.small_g; small_rhs = small_more rhs (omega arith) R.small_rhs }; inside = S.inside; stands = w })
-
--- its keys can be compared
-pub keyed : {a : Aim} {count u : ℕ} {at : Spot} {plan g rhs parent k1 k2 place list : List ℕ} → Stepping a count u (tables plan g rhs parent k1 k2 place list) → At a.width u at → Keyed a u at g rhs k1 k2
-keyed {a} {u = u} {rhs = rhs} S w =
-    let R = S.ready in
-    record {
-      sited = sited (step_here S w);
-      long_k1 = R.held.sized.k1;
-      long_k2 = R.held.sized.k2;
-      fits = key_fits a _ _ (R.small_g u) (small_more rhs (omega arith) R.small_rhs u) R.aimed.km_le S.differ;
-    }

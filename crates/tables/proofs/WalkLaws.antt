@@ -1,49 +1,28 @@
 -- The check's rules as the code tests them, return by return.
 use mathlib.Core.Path.{◌≡◌, sym, ◌∙◌}
 use mathlib.Core.Bool.{Bool, not}
-use mathlib.Core.Logic.{inl, inr, ⊎_elim, ◌≢◌}
+use mathlib.Core.Logic.{◌≢◌}
 use mathlib.Core.List.{List}
 use Prim.Native.Nat.{ℕ, ◌+◌, ◌*◌, ◌≤◌, ◌<◌, min}
 use native.Mathlib.Omega.{arith}
-use native.Mathlib.Decide.{ℕ_discrete}
-use lib.Dec.{eqb, leb, ltb}
+use lib.Dec.{eqb}
 use lib.ListN.{get_or}
 use Rattle.decide.specs.Decides.{Decides}
-use Rattle.decide.proofs.DecideLaws.{decides_eq, decides_ne, decides_le, decides_lt, decides_as}
+use Rattle.decide.proofs.DecideLaws.{decides_eq, decides_ne, decides_as}
 use Rattle.method.specs.Tables.{NotAbove}
-use Rattle.queue.specs.Rules.{EntryRule, AbsentRule, QueuedRule}
+use Rattle.queue.specs.Rules.{QueuedRule}
 use Rattle.method.specs.Numbers.{most_cells}
 use Rattle.plan.specs.Directions.{opposite, row_step, column_step}
 use Rattle.plan.specs.Cells.{Stays, entered, estimate}
-use Rattle.plan.specs.Costs.{plan_of, shut, IsCost, IsByte}
+use Rattle.plan.specs.Costs.{plan_of, shut}
 use Rattle.plan.specs.Reached.{At, between}
 use Rattle.plan.specs.declared.Spot.{Spot}
 use Rattle.plan.proofs.CellLaws.{stands_row, stands_column, entered_sum, enters}
 use Rattle.plan.proofs.MoveLaws.{area}
 use Rattle.tables.specs.declared.Session.{Session}
 use Rattle.tables.specs.declared.Ahead.{Ahead}
-use Rattle.tables.specs.Lent.{cells}
 use Rattle.tables.specs.Asked.{WayAsked}
-use Rattle.tables.specs.Rules.{SumRule, MoveRule, WayRule, OwnRule, WaitingRule, AloneRule, most}
-
--- two keys, told by their first numbers or by their second
-pub above_by_first : (a b c d : ℕ) → a ≢ c → Decides (ltb a c) (NotAbove a b c d)
-above_by_first a b c d n = decides_lt a c inl (⊎_elim (λ (l : a < c). l) (λ (z : (a ≡ c) × (b ≤ d)). absurd (n z.0)))
-
-pub above_by_second : (a b c d : ℕ) → a ≡ c → Decides (leb b d) (NotAbove a b c d)
-above_by_second a b c d q = decides_le b d (λ l. inr (q, l)) (⊎_elim (λ (l : a < c). absurd (omega arith)) (λ (z : (a ≡ c) × (b ≤ d)). z.1))
-
--- the hunter alone may have its rhs above a sum
-pub hunter_by : {hunter v r p sum k : ℕ} → sum < r → SumRule hunter v r p sum k → v ≡ hunter
-hunter_by {hunter} {v} {r} {p} {sum} {k} over S = at (ℕ_discrete v hunter)
-  where
-    at : Dec (v ≡ hunter) → v ≡ hunter
-    at (yes e) = e
-    at (no n) = absurd (omega (arith, S.least n))
-
-pub no_byte : {b : ℕ} → IsByte b → (IsCost b → ⊥) → b ≢ shut → ⊥
-no_byte (inl o) n m = n o
-no_byte (inr e) n m = m e
+use Rattle.tables.specs.Rules.{MoveRule, WayRule, WaitingRule}
 
 -- a cell and direction
 module _ {width height u d : ℕ} (bytes rhs parent : List ℕ) (hunter x : ℕ) {b : ℕ} (eb : b ≡ get_or bytes (4 * u + d) 0) where
@@ -81,17 +60,3 @@ pub waiting_by_key : {s : Session} {k1 k2 place list : List ℕ} {x y u e : ℕ}
     → Decides r (NotAbove (get_or k1 u 0) (get_or k2 u 0) (min x y + e + s.km) (min x y))
     → Decides r (WaitingRule s k1 k2 place list x y u)
 waiting_by_key q w D = decides_as D (λ E. record { queued = w; key = rw q at E }) (λ W. rw q W.key)
-
--- a cell by itself: one whose g and rhs are equal, and one whose differ
-module _ {s : Session} {g rhs parent k1 k2 place list : List ℕ} {u : ℕ} {r : Bool}
-    (E : EntryRule s.width (cells s) s.count k1 k2 place list u) (O : OwnRule (most s) s.origin u (get_or g u 0) (get_or rhs u 0) (get_or parent u 0)) where
-  pub alone_idle : get_or g u 0 ≡ get_or rhs u 0 → Decides r (AbsentRule k1 k2 place u) → Decides r (AloneRule s g rhs parent k1 k2 place list u)
-  alone_idle same D = decides_as D (λ a. record { entry = E; own = O; idle = λ _. a; waiting = λ n. absurd (n same) }) (λ A. A.idle same)
-
-  pub alone_waiting : get_or g u 0 ≢ get_or rhs u 0 → Decides r (WaitingRule s k1 k2 place list (get_or g u 0) (get_or rhs u 0) u) → Decides r (AloneRule s g rhs parent k1 k2 place list u)
-  alone_waiting differ D = decides_as D (λ W. record { entry = E; own = O; idle = λ e. absurd (differ e); waiting = λ _. W }) (λ A. A.waiting differ)
-
--- a place's rule, the number of cells by another name
-pub entry_as : {r : Bool} {width room room' count : ℕ} {k1 k2 place list : List ℕ} {i : ℕ} → room ≡ room'
-    → Decides r (EntryRule width room count k1 k2 place list i) → Decides r (EntryRule width room' count k1 k2 place list i)
-entry_as e D = rw e at D

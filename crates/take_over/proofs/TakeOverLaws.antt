@@ -4,12 +4,11 @@ use mathlib.Core.Logic.{◌≢◌}
 use Prim.Native.Nat.{ℕ, ◌+◌, ◌*◌, ◌≤◌, ◌<◌}
 use native.Mathlib.Omega.{arith}
 use native.Mathlib.Decide.{ℕ_discrete, dec_le}
-use lib.ListN.{get_or, length, set, length-set}
+use lib.ListN.{get_or, set}
 use Rattle.decide.proofs.ChooseLaws.{choose_yes, choose_no}
 use Rattle.method.specs.Numbers.{infinite, renewal}
 use Rattle.method.specs.Tables as method
 use Rattle.method.specs.Session as calls
-use Rattle.method.proofs.Readying.{handed_over_sized}
 use Rattle.plan.specs.Cells.{Size, estimate}
 use Rattle.plan.specs.Reached.{At, Placed, between}
 use Rattle.plan.specs.declared.Spot.{Spot}
@@ -17,15 +16,15 @@ use Rattle.plan.proofs.EstimateLaws.{estimate_le}
 use Rattle.plan.proofs.MoveLaws.{placed}
 use Rattle.tables.specs.declared.Session.{Session}
 use Rattle.queue.specs.Queue.{EntryKept}
-use Rattle.tables.specs.Lent.{Tables, tables, frame, framed, cells, graph, session, core}
+use Rattle.tables.specs.Lent.{Tables, tables, frame, framed, graph, session, core}
 use Rattle.tables.specs.Sound.{Sound}
 use Rattle.tables.proofs.SoundLaws.{sound_fits}
 use Rattle.tables.proofs.WalkLaws.{estimate_at}
 use Rattle.entries.specs.declared.Aim.{Aim}
-use Rattle.entries.specs.Aims.{AimOf, hunt, most_rhs, ReadyAt}
+use Rattle.entries.specs.Aims.{AimOf, hunt}
 use Rattle.entries.specs.Became.{Became}
 use Rattle.entries.specs.Begin.{Openable, begun, Opened}
-use Rattle.entries.proofs.AimLaws.{ready_of, became_of}
+use Rattle.entries.proofs.AimLaws.{became_of}
 use Rattle.entries.proofs.SmallLaws.{sound_small_g, sound_small_rhs}
 use Rattle.take_over.specs.TakeOver.{aimed_anew, hand_over, Aiming, Handing, Holds, Takes}
 
@@ -49,9 +48,6 @@ module _ {s : Session} (A : Aiming s) {old new : Spot} (o : At s.width s.goal ol
   estimate_is : between old new ≡ estimate s.width s.goal s.target
   estimate_is = estimate_at o n
 
-  pub both_placed : Placed old × Placed new
-  both_placed = (spot_placed A.size o A.old_in, spot_placed A.size n A.new_in)
-
   pub km_room : {e : ℕ} → e ≡ between old new → s.km + e < 4294967296
   km_room e = omega (arith, e, estimate_is, estimate_le A.size s.goal s.target A.old_in A.new_in, A.km_le)
 
@@ -68,40 +64,11 @@ abbrev pub orphaned : Session → Tables → Tables
 orphaned s t = tables t.plan t.g t.rhs (set t.parent s.hunter 0) t.k1 t.k2 t.place t.list
 
 module _ {s : Session} {t : Tables} {a : Aim} (R : Handing s t) (O : AimOf (handed s s.count) a) where
-  pub hand_ready : {at : Spot} → At s.width s.origin at → ReadyAt a most_rhs s.count s.origin at (orphaned s t)
-  hand_ready h =
-      ready_of O
-      (record {
-        ready = record {
-          aimed = record { obeys = R.obeys; hunter_in = R.new_in; target_in = R.goal_in; target_at = O.target_at; km_le = R.km_le };
-          held = record {
-            sized = record {
-              g = R.sized.g;
-              rhs = R.sized.rhs;
-              parent = length-set t.parent s.hunter 0 ∙ R.sized.parent;
-              k1 = R.sized.k1;
-              k2 = R.sized.k2;
-              queued = R.sized.queued;
-            };
-            heap = R.heap;
-          };
-          small_g = R.small_g;
-          small_rhs = R.small_rhs;
-        };
-        inside = R.old_in;
-        stands = h;
-      })
-
   pub hand_holds : {count : ℕ} {t' : Tables} → Became a count t' (method.found_anew (hunt a t.plan) (core (orphaned s t)) s.origin) → Holds s (hand_over s t) (handed s count) t'
   unfolding calls.handed_over
   hand_holds B =
       let b = became_of (λ x. method.found_anew (hunt x t.plan) (core (orphaned s t)) s.origin) O B in
       record { frame_is = refl; record_is = refl; tables_are = b.is; heap = b.heap }
-
-  pub hand_long : {count : ℕ} {t' : Tables} → Became a count t' (method.found_anew (hunt a t.plan) (core (orphaned s t)) s.origin) → length t'.parent ≡ length t.parent
-  hand_long B =
-      let z = subst (λ T. method.Sized (cells s) T) (sym (hand_holds B).tables_are) (handed_over_sized R.sized (calls.hunt_of (graph s t) (calls.hunter_taken (session s))) s.origin) in
-      z.parent ∙ sym R.sized.parent
 
 -- ---- the whole
 
@@ -112,9 +79,6 @@ in_time l m = omega arith
 module _ {s : Session} {t : Tables} (S : Sound s t) where
   pub openable : Openable (frame s) s.hunter s.target t
   openable = record { fits = sound_fits S; hunter_in = S.numbers.hunter_in; target_in = S.numbers.target_in; obeys = S.plan }
-
-  pub aiming : Aiming s
-  aiming = record { size = S.plan.size; old_in = S.numbers.goal_in; new_in = S.numbers.target_in; km_le = omega (arith, S.numbers.km_le, S.numbers.searches_le) }
 
   pub handing : {r : Session} → r ≡ aimed_anew s → Handing r t
   handing e =

@@ -4,6 +4,9 @@ use Rattle.std.proofs.Common.{rules}
 use Rattle.steps.proofs.LoopLaws.{choosing, stepping, going_more, finished_done, finished_cut}
 use Rattle.steps.proofs.run.Goals as goal
 
+pub chosen-requires : goal.chosen-requires
+chosen-requires c = choosing c.requires.aimed c.loop-steps.invariant.0
+
 pub returns-in_default-clause-finished : goal.returns-in_default-clause-finished
 returns-in_default-clause-finished c = finished_done c.loop-steps.invariant.0 (c.in_default.ensures c.args.plan.now)
 
