@@ -1,11 +1,11 @@
 // The running cost along a list of cells of a plan.
 #![tactic(auto)]
 
-ghost use Rattle.std.specs.Prelude.{◌≡◌, List, ℕ, ◌*◌, ◌≤◌, ◌<◌, length, drop};
+ghost use Rattle.std.specs.Prelude.{◌≡◌, ℕ, ◌*◌, ◌≤◌, ◌<◌, length, drop};
 ghost use Rattle.decide.specs.Decides.{Decides};
 ghost use Rattle.refusal.specs.Numbers.{number_in};
 ghost use Rattle.plan.specs.Cells.{Size};
-ghost use Rattle.plan.specs.Costs.{plan_of, byte};
+ghost use Rattle.plan.specs.Costs.{byte};
 ghost use Rattle.plan.specs.Floors.{floor_plan};
 ghost use Rattle.plan.specs.Toward.{Leads, Neighbours};
 ghost use Rattle.along.specs.Along.{Listed, AllNeighbours, AllOpen, Runs, AlongRules, Way, Costable, Costed};

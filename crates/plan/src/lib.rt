@@ -34,6 +34,7 @@ const SHIFTS: [Shift; 4] = [
 ];
 
 // The step of a direction.
+#[tactic(auto, unfolding(crate::specs::Directions::shifts))]
 pub fn shift_of(d: usize) -> Shift
     requires { d < 4 }
     ensures { result ≡ shift_of d }

@@ -49,7 +49,10 @@ copied {from} {to} n lf lt =
     let long : length (take n from) ≡ n = length-take-le n from lf in
     record {
       first = λ i l. get_or_append_left (take n from) (drop n to) 0 i (omega arith) ∙ get_or-take n from i 0 l;
-      kept = record { long = length-append (take n from) (drop n to) ∙ omega (arith, long, length-drop n to); rest = λ i l. get_or-append_right (take n from) (drop n to) n i 0 long l ∙ get_or-drop n to (i - n) 0 ∙ ap (λ k. get_or to k 0) (omega arith) };
+      kept = record {
+        long = length-append (take n from) (drop n to) ∙ omega (arith, long, length-drop n to);
+        rest = λ i l. get_or-append_right (take n from) (drop n to) n i 0 long l ∙ get_or-drop n to (i - n) 0 ∙ ap (λ k. get_or to k 0) (omega arith);
+      };
     }
 
 -- The ones of the first rows, row by row.

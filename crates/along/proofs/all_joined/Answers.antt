@@ -8,7 +8,8 @@ use Rattle.along.proofs.all_joined.Goals as goal
 
 pub all-requires-clause-callable : goal.all-requires-clause-callable
 all-requires-clause-callable c =
-    serves_from_places (pairs_from c.args.cells.now c.zip.ensures.first c.iter.ensures.rest c.zip.ensures.second.0) (λ x q k. search rules) (λ x k l e. let m : x.0.now < c.args.height * c.args.width = pair_first c.args.cells.now _ k x.0.now x.1.now c.requires.in_bounds.1 l e in search rules)
+    serves_from_places (pairs_from c.args.cells.now c.zip.ensures.first c.iter.ensures.rest c.zip.ensures.second.0) (λ x q k. search rules)
+    (λ x k l e. let m : x.0.now < c.args.height * c.args.width = pair_first c.args.cells.now _ k x.0.now x.1.now c.requires.in_bounds.1 l e in search rules)
 
 pub returns : goal.returns
 returns c =
