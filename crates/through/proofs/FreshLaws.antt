@@ -14,7 +14,8 @@ use Rattle.method.specs.Session.{hunt_of, opened}
 use Rattle.method.specs.During.{During}
 use Rattle.method.proofs.Readying.{fresh_sized}
 use Rattle.method.proofs.Fresh.{fresh_run, fresh_during, fresh_ran, fresh_none, fresh_cheapest, fresh_above, fresh_small}
-use Rattle.plan.specs.Cells.{Size, Stands}
+use Rattle.plan.specs.Cells.{Size}
+use Rattle.plan.specs.Reached.{At}
 use Rattle.plan.specs.Costs.{Plan, plan_of, cells, Obeys}
 use Rattle.plan.specs.Grid.{graph_of}
 use Rattle.plan.proofs.GridLaws.{graph_laws}
@@ -86,8 +87,8 @@ module _ {width height from to : ℕ} {plan : List ℕ} (O : Obeys (plan_of widt
     abbrev t₁ : Tables
     t₁ = tables plan g₁ rhs₁ parent₁ k1₁ k2₁ place₁ list₁
 
-    aim_is : a ≡ aim_by (frame_of_size width height) (opened from to) a.row a.column
-    aim_is = A.is ∙ ap (λ (s : Session). aim_of s a.row a.column) e
+    aim_is : a ≡ aim_by (frame_of_size width height) (opened from to) a.target_at
+    aim_is = A.is ∙ ap (λ (s : Session). aim_of s a.target_at) e
 
     pub run_aimed : Aimed a plan
     run_aimed =
@@ -96,7 +97,7 @@ module _ {width height from to : ℕ} {plan : List ℕ} (O : Obeys (plan_of widt
           obeys = O;
           hunter_in = from_in;
           target_in = to_in;
-          target_at = subst (λ (s : Session). Stands s.width s.goal a.row a.column) e A.target_at;
+          target_at = subst (λ (s : Session). At s.width s.goal a.target_at) e A.target_at;
           km_le = omega arith;
         })
 

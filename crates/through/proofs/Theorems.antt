@@ -29,18 +29,23 @@ one_answer p h t u v (Ok x) (Err k) A B = absurd B
 one_answer p h t u v (Err k) s A B = absurd A
 
 -- An answer that tells a refusal's number only is that refusal.
-refused_is : (r : Result (Option ℕ) Refusal) {k : ℕ} → k ≢ 0 → through_told r ≡ record { refusal = k; walk = 0; cost = 0 } → r ≡ Err (refusal_of k)
+abbrev told_refusal : ℕ → ThroughTold
+told_refusal k = record { refusal = k; walk = 0; cost = 0 }
+
+refused_is : (r : Result (Option ℕ) Refusal) {k : ℕ} → k ≢ 0 → through_told r ≡ told_refusal k → r ≡ Err (refusal_of k)
 refused_is (Ok (Some d)) n e = absurd (n (sym (ap (λ (x : ThroughTold). x.refusal) e)))
 refused_is (Ok None) n e = absurd (n (sym (ap (λ (x : ThroughTold). x.refusal) e)))
 refused_is (Err q) n e = ap Err (sym (refusal_is q) ∙ ap (λ (x : ThroughTold). refusal_of x.refusal) e)
 
 module _ {width height hunter target : ℕ} {plan : List ℕ} {cell direction : ℕ} {r : Result (Option ℕ) Refusal} (P : Passes width height hunter target plan cell direction r) where
-  -- Refused by the number of the first rule broken ..
-  pub through_refused : {k : ℕ} → ThroughRules width height hunter target plan cell direction k → k ≢ 0 → r ≡ Err (refusal_of k)
-  through_refused rules n =
+  -- Refused by the number of the first rule broken, and nothing else is told ..
+  pub through_refused_told : {k : ℕ} → ThroughRules width height hunter target plan cell direction k → k ≢ 0 → through_told r ≡ record { refusal = k; walk = 0; cost = 0 }
+  through_refused_told rules n =
       let e = through_one plan P.rules rules in
-      let m = λ (z : P.number ≡ 0). n (sym e ∙ z) in
-      refused_is r m (P.refused m) ∙ ap (λ x. Err (refusal_of x)) e
+      P.refused (λ z. n (sym e ∙ z)) ∙ ap told_refusal e
+
+  pub through_refused : {k : ℕ} → ThroughRules width height hunter target plan cell direction k → k ≢ 0 → r ≡ Err (refusal_of k)
+  through_refused rules n = refused_is r n (through_refused_told rules n)
 
   -- .. and where no rule is broken, answered.
   pub through_done : Askable width height hunter target plan cell direction → Answers (plan_of width height plan) hunter target cell (entered width cell direction) r
