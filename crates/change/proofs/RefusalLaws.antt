@@ -12,7 +12,7 @@ use Rattle.tables.specs.declared.Session.{Session}
 use Rattle.tables.specs.Lent.{Tables, cells, Fits}
 use Rattle.tables.specs.Sound.{Sound}
 use Rattle.session.specs.Refusals.{TableRules}
-use Rattle.session.proofs.RefusalLaws.{told_in, table_number, sound_rules, tables_granted}
+use Rattle.session.proofs.RefusalLaws.{told_in, table_number, sound_rules}
 use Rattle.change.specs.Refusals.{MoveRules, ChangeRules, Workable}
 use Rattle.change.specs.Promise.{counted, WorkedIn, Changes}
 

@@ -179,9 +179,11 @@ module _ {s : Session} (plan g : List ℕ) (t : Ahead) {u d cost v k : ℕ} {r :
         here.1
 
     -- and took it
-    pub taken_worked : {a : Aim} {count : ℕ} {t' : Ahead} → AimOf s a → Taken a x.cell x.found g t count t' → KeptIn s.count t count t' → WorkedIn s (lent plan g t) u d cost count (lent (replanned s (lent plan g t) u d cost) g t')
+    pub taken_worked : {a : Aim} {count : ℕ} {t' : Ahead} → AimOf s a → Taken a x.cell x.found g t count t' → KeptIn s.count t count t'
+        → WorkedIn s (lent plan g t) u d cost count (lent (replanned s (lent plan g t) u d cost) g t')
     taken_worked {a} {count} {t'} O T K =
-        let B = became_of {t = lent (replanned s (lent plan g t) u d cost) g t'} (λ y. obeyed (hunt y (replanned s (lent plan g t) u d cost)) (core (lent plan g t)) (Some x)) O (T.became (replanned s (lent plan g t) u d cost)) in
+        let p = replanned s (lent plan g t) u d cost in
+        let B = became_of {t = lent p g t'} (λ y. obeyed (hunt y p) (core (lent plan g t)) (Some x)) O (T.became p) in
         record {
           plan = refl;
           is = B.is ∙ ap (obeyed (hunt_after s (lent plan g t) u d cost) (core (lent plan g t))) (sym q) ∙ as_method;

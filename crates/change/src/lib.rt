@@ -1,7 +1,7 @@
 // The public call that changes a move, the same without the check for tables known to be sound, and what a changed move asks of the cell that it enters.
 #![tactic(auto)]
 
-ghost use Rattle.std.specs.Prelude.{◌≡◌, ◌+◌};
+ghost use Rattle.std.specs.Prelude.{◌+◌};
 ghost use Rattle.refusal.specs.Numbers.{number_in};
 ghost use Rattle.plan.specs.Cells.{Size};
 ghost use Rattle.tables.specs.Lent.{lent, SameTables};
