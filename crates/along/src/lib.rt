@@ -69,22 +69,13 @@ fn check(
         return Err(Refusal::Size);
     }
     let n = height * width;
-    if plan.len() != 4 * n {
-        return Err(Refusal::Length);
-    }
-    if cells.is_empty() {
-        return Err(Refusal::Length);
-    }
-    if n < cells.len() {
+    if plan.len() != 4 * n || cells.is_empty() || n < cells.len() {
         return Err(Refusal::Length);
     }
     if !cells_inside(n, cells) {
         return Err(Refusal::Cell);
     }
-    if !plan::edges_hold(width, height, plan) {
-        return Err(Refusal::Move);
-    }
-    if !all_joined(width, height, cells) {
+    if !plan::edges_hold(width, height, plan) || !all_joined(width, height, cells) {
         return Err(Refusal::Move);
     }
     if !plan::bytes_hold(width, height, plan) {

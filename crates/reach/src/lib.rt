@@ -113,14 +113,14 @@ fn leads_out(floor: Floor, rows: &[u64], at: Spot, place: usize) -> bool
     requires { (floor.height ≤ length rows.now) × (place < 4 * (floor.height * floor.width)) × At floor.width (place / 4) at }
     ensures { Decides result (LeadsOut (floor_plan floor.entry) (Marked floor.entry.width rows.now) (place / 4) (place % 4)) }
 {
-    if floor.plan[place] != plan::SHUT {
-        return false;
-    }
-    if !is_marked(rows, at) {
-        return false;
-    }
     let d = place % 4;
-    plan::stays_in(floor.width, floor.height, at, d) && !is_marked(rows, plan::moved(at, d))
+    if floor.plan[place] != plan::SHUT
+        || !is_marked(rows, at)
+        || !plan::stays_in(floor.width, floor.height, at, d)
+    {
+        return false;
+    }
+    !is_marked(rows, plan::moved(at, d))
 }
 
 // The places of the moves that lead out, as far as they are found: a list of them, `count` long.
