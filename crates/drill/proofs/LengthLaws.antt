@@ -15,8 +15,9 @@ use Rattle.plan.specs.Costs.{cells}
 use Rattle.plan.proofs.MoveLaws.{area}
 use Rattle.answer.specs.Answer.{answer_of, cells_of}
 use Rattle.standing.specs.Standing.{Standing, floor_at, graph_at, search_at}
+use Rattle.std.specs.Prelude.{Option, Some, None}
 use Rattle.drill_file.specs.declared.Action.{Action}
-use Rattle.drill_file.specs.declared.Action.TheVariants.{Change, Hunter, Target, Search, Bad}
+use Rattle.drill_file.specs.declared.Action.TheVariants.{Change, Hunter, Target, Search}
 use Rattle.drill_file.specs.File.{trailer_of, actions_from, actions_of}
 use Rattle.drill_file.specs.Numbers.{file_number}
 use Rattle.drill_file.proofs.NumberLaws.{formed, file_formed}
@@ -72,15 +73,15 @@ line_few method_session.cut_off = simp length-append (omega (arith, decimal_few 
 Short : ℕ → Turn → Type 0
 Short n t = (length t.line ≤ 74 + 21 * n) × (cells (floor_at t.after) ≡ n)
 
-turn_few : (S : Standing) (a : Action) → Short (cells (floor_at S)) (turn S a)
+turn_few : (S : Standing) (a : Option Action) → Short (cells (floor_at S)) (turn S a)
 unfolding turn Short
-turn_few S (Change u d cost) = choose_is (Short (cells (floor_at S))) _ (λ _. (omega arith, refl)) (λ _. (omega (arith, refusal_few (move_number (floor_at S) u d cost)), refl))
-turn_few S (Hunter s) = choose_is (Short (cells (floor_at S))) _ (λ _. (omega arith, refl)) (λ _. (omega (arith, refusal_few 3), refl))
-turn_few S (Target s) = choose_is (Short (cells (floor_at S))) _ (λ _. (omega arith, refl)) (λ _. (omega (arith, refusal_few 3), refl))
-turn_few S Search = (omega (arith, line_few (search_at S).answer, cells_few (graph_at S) S.session S.tables), refl)
-turn_few S Bad = (omega arith, refl)
+turn_few S (Some (Change u d cost)) = choose_is (Short (cells (floor_at S))) _ (λ _. (omega arith, refl)) (λ _. (omega (arith, refusal_few (move_number (floor_at S) u d cost)), refl))
+turn_few S (Some (Hunter s)) = choose_is (Short (cells (floor_at S))) _ (λ _. (omega arith, refl)) (λ _. (omega (arith, refusal_few 3), refl))
+turn_few S (Some (Target s)) = choose_is (Short (cells (floor_at S))) _ (λ _. (omega arith, refl)) (λ _. (omega (arith, refusal_few 3), refl))
+turn_few S (Some Search) = (omega (arith, line_few (search_at S).answer, cells_few (graph_at S) S.session S.tables), refl)
+turn_few S None = (omega arith, refl)
 
-played_few : (l : List Action) (S : Standing) (n : ℕ) → cells (floor_at S) ≡ n → length (played S l) ≤ length l * (74 + 21 * n)
+played_few : (l : List (Option Action)) (S : Standing) (n : ℕ) → cells (floor_at S) ≡ n → length (played S l) ≤ length l * (74 + 21 * n)
 unfolding played Short
 played_few [] S n e = omega arith
 played_few (a ∷ l) S n e =

@@ -10,6 +10,7 @@ use Rattle.decide.proofs.ChooseLaws.{choose_yes}
 use Rattle.plan.proofs.MoveLaws.{area}
 use Rattle.tables.specs.declared.Session.{Session}
 use Rattle.tables.specs.Lent.{Tables, cells}
+use Rattle.std.specs.Prelude.{Option}
 use Rattle.drill_file.specs.declared.Action.{Action}
 use Rattle.drill_file.specs.File.{actions_from, actions_of}
 use Rattle.drill_file.specs.Numbers.{file_number}
@@ -50,31 +51,31 @@ all_printed {file} {printed} {S} at e U =
 
 -- ---- actions played
 
-module _ {file : List ℕ} {s : Session} {t : Tables} {way : List ℕ} {at left : ℕ} {text : List ℕ} {r : Played} {t' : Tables} {way' text' : List ℕ}
-    (P : Plays file s t way at left text r t' way' text') where
+module _ {file : List ℕ} {s : Session} {t : Tables} {way : List ℕ} {at left : ℕ} {text : List ℕ} {r : Played} {t' : Tables} {way' text' : List ℕ} {used : ℕ}
+    (P : Plays file s t way at left text r t' way' text' used) where
   -- What stands in the text, and then what the actions left over print, is what all of them print.
-  pub prints : played (stands s t) (actions_from file at left) ≡ take r.used text' ++ played (stands r.session t') (actions_from file r.at r.left)
+  pub prints : played (stands s t) (actions_from file at left) ≡ take used text' ++ played (stands r.session t') (actions_from file r.at r.left)
   prints =
       ap (λ k. played S (actions_from file at k)) P.all ∙ ap (played S) (actions_more file at P.done r.left) ∙ played_more S before (actions_from file (at + 5 * P.done) r.left)
       ∙ ap (λ (x : List ℕ). x ++ played (left_by S before) (actions_from file (at + 5 * P.done) r.left)) (sym P.lines.stands)
-      ∙ ap (λ x. take r.used text' ++ played x (actions_from file (at + 5 * P.done) r.left)) (sym P.after)
-      ∙ ap (λ k. take r.used text' ++ played (stands r.session t') (actions_from file k r.left)) (sym P.place)
+      ∙ ap (λ x. take used text' ++ played x (actions_from file (at + 5 * P.done) r.left)) (sym P.after)
+      ∙ ap (λ k. take used text' ++ played (stands r.session t') (actions_from file k r.left)) (sym P.place)
     where
       S : Standing
       S = stands s t
 
-      before : List Action
+      before : List (Option Action)
       before = actions_from file at P.done
 
   -- The text is the next piece of the output ..
-  pub next_piece : {printed : ℕ} → Unprinted file printed (stands s t) (actions_from file at left) → NextPiece file printed (take r.used text')
+  pub next_piece : {printed : ℕ} → Unprinted file printed (stands s t) (actions_from file at left) → NextPiece file printed (take used text')
   next_piece U = record { within = U.within; rest = played (stands r.session t') (actions_from file r.at r.left); is = U.rest ∙ prints }
 
   -- .. and once it is printed, what is left over is still to be.
-  pub next_printed : {printed bytes : ℕ} → Unprinted file printed (stands s t) (actions_from file at left) → bytes ≡ printed + r.used
+  pub next_printed : {printed bytes : ℕ} → Unprinted file printed (stands s t) (actions_from file at left) → bytes ≡ printed + used
       → Unprinted file bytes (stands r.session t') (actions_from file r.at r.left)
   next_printed {printed} U e =
-      let h = taken_off (output file) printed r.used (take r.used text') U.within (U.rest ∙ prints) (front P.lines) in
+      let h = taken_off (output file) printed used (take used text') U.within (U.rest ∙ prints) (front P.lines) in
       subst (λ k. Unprinted file k (stands r.session t') (actions_from file r.at r.left)) (sym e) (record { within = h.0; rest = h.1 })
 
   -- The size stays as it was.
@@ -90,21 +91,21 @@ module _ {file : List ℕ} {s : Session} {t : Tables} {way : List ℕ} {at left 
 
 -- ---- a file opened or refused
 
-module _ {file : List ℕ} {t : Tables} {text : List ℕ} {r : Played} {t' : Tables} {text' : List ℕ} (B : Begins file t text r t' text') where
+module _ {file : List ℕ} {t : Tables} {text : List ℕ} {r : Played} {t' : Tables} {text' : List ℕ} {used : ℕ} (B : Begins file t text r t' text' used) where
   -- The text is the whole of the output, or its first piece with what is left to play.
-  pub begun_prints : output file ≡ take r.used text' ++ played (stands r.session t') (actions_from file r.at r.left)
+  pub begun_prints : output file ≡ take used text' ++ played (stands r.session t') (actions_from file r.at r.left)
   unfolding output actions_from played
   begun_prints = by_number (ℕ_discrete (file_number file) 0)
     where
-      by_number : Dec (file_number file ≡ 0) → output file ≡ take r.used text' ++ played (stands r.session t') (actions_from file r.at r.left)
+      by_number : Dec (file_number file ≡ 0) → output file ≡ take used text' ++ played (stands r.session t') (actions_from file r.at r.left)
       by_number (yes z) =
           let O = B.opened z in
           choose_yes (ℕ_discrete (file_number file) 0) (played (begun file) (actions_of file)) (refused_line (file_number file)) z ∙ ap (λ x. played x (actions_of file)) (sym O.after)
           ∙ ap (λ k. take k text' ++ played (stands r.session t') (actions_of file)) (sym O.unused) ∙ cc (O.place, O.all_left)
       by_number (no n) =
           let R = (B.refused n).0 in
-          refused_prints file n ∙ sym R.line.stands ∙ sym (append-nil (take r.used text'))
-          ∙ ap (λ k. take r.used text' ++ played (stands r.session t') (actions_from file r.at k)) (sym R.none_left)
+          refused_prints file n ∙ sym R.line.stands ∙ sym (append-nil (take used text'))
+          ∙ ap (λ k. take used text' ++ played (stands r.session t') (actions_from file r.at k)) (sym R.none_left)
 
   -- The text keeps its length, and what is used of it is in it.
   pub begun_long : length text' ≡ length text
@@ -114,22 +115,22 @@ module _ {file : List ℕ} {t : Tables} {text : List ℕ} {r : Played} {t' : Tab
       by_number (yes z) = ap length (B.opened z).blank
       by_number (no n) = (B.refused n).0.line.long
 
-  begun_front : length (take r.used text') ≡ r.used
+  begun_front : length (take used text') ≡ used
   begun_front = by_number (ℕ_discrete (file_number file) 0)
     where
-      by_number : Dec (file_number file ≡ 0) → length (take r.used text') ≡ r.used
+      by_number : Dec (file_number file ≡ 0) → length (take used text') ≡ used
       by_number (yes z) = ap (λ k. length (take k text')) (B.opened z).unused ∙ sym (B.opened z).unused
       by_number (no n) = front (B.refused n).0.line
 
-  pub begun_used : r.used ≤ length text'
-  begun_used = omega (arith, begun_front, length-take r.used text')
+  pub begun_used : used ≤ length text'
+  begun_used = omega (arith, begun_front, length-take used text')
 
-  pub first_piece : NextPiece file 0 (take r.used text')
+  pub first_piece : NextPiece file 0 (take used text')
   first_piece = record { within = omega arith; rest = played (stands r.session t') (actions_from file r.at r.left); is = begun_prints }
 
-  pub first_printed : {bytes : ℕ} → bytes ≡ 0 + r.used → Unprinted file bytes (stands r.session t') (actions_from file r.at r.left)
+  pub first_printed : {bytes : ℕ} → bytes ≡ 0 + used → Unprinted file bytes (stands r.session t') (actions_from file r.at r.left)
   first_printed e =
-      let h = taken_off (output file) 0 r.used (take r.used text') (omega arith) begun_prints begun_front in
+      let h = taken_off (output file) 0 used (take used text') (omega arith) begun_prints begun_front in
       subst (λ k. Unprinted file k (stands r.session t') (actions_from file r.at r.left)) (sym e) (record { within = h.0; rest = h.1 })
 
   -- A file that has actions left to play was opened, and they can be played.

@@ -18,14 +18,13 @@ use Rattle.decide.proofs.DecideLaws.{decides_le}
 use Rattle.tables.specs.declared.Session.{Session}
 use Rattle.tables.specs.Lent.{Tables, frame, cells, floor}
 use Rattle.tables.specs.Sound.{Sound}
-use Rattle.tables.specs.Told.{Told}
+use Rattle.tables.specs.Told.{Name, done as name_done, refusal as name_refusal, Told, told_number}
 use Rattle.tables.proofs.SoundLaws.{sound_fits}
 use Rattle.session.specs.declared.Reply.{Reply}
 use Rattle.session.specs.Promises.{hunter_at, target_at, Places}
-use Rattle.session.proofs.RefusalLaws.{answered, place_granted, sound_rules}
-use Rattle.session.proofs.Theorems.{place_answer}
+use Rattle.session.specs.Refusals.{told_by}
+use Rattle.session.proofs.RefusalLaws.{place_granted, sound_rules}
 use Rattle.change.specs.Promise.{Changes}
-use Rattle.change.proofs.Theorems.{change_answer}
 use Rattle.search.specs.declared.Outcome.{Outcome}
 use Rattle.answer.specs.declared.Answer as search_answer
 use Rattle.answer.specs.Answer.{count_of, answer_of, cells_of}
@@ -37,13 +36,14 @@ use Rattle.demands.proofs.Demands.{demand_2, demand_3}
 use Rattle.standing.specs.Standing.{Standing, stands, searched}
 use Rattle.standing.specs.Leaves.{Leaves}
 use Rattle.standing.proofs.StandingLaws.{hunter_leaves, target_leaves, change_leaves, search_leaves}
+use Rattle.std.specs.Prelude.{Option, Some, None, Result, Ok, Err}
+use Rattle.refusal.specs.declared.Refusal.{Refusal}
 use Rattle.drill_file.specs.declared.Action.{Action}
-use Rattle.drill_file.specs.declared.Action.TheVariants.{Change, Hunter, Target, Search, Bad}
+use Rattle.drill_file.specs.declared.Action.TheVariants.{Change, Hunter, Target, Search}
 use Rattle.drill_file.specs.File.{action_at, actions_from}
 use Rattle.text.specs.Put.{Put}
 use Rattle.text.proofs.PutLaws.{put_nothing, put_then, put_as, put_end}
 use Rattle.lines.specs.Lines.{refused_line, line, room}
-use Rattle.drill.specs.declared.Turned.{Turned}
 use Rattle.drill.specs.Numbers.{move_number}
 use Rattle.drill.specs.Play.{Turn, accepted, refused, turn, played, left_by, way_left}
 use Rattle.drill.specs.Promises.{told, Ready, Turns, Plays}
@@ -52,38 +52,45 @@ use Rattle.drill.proofs.NumberLaws.{move_number_is}
 -- ---- a reply to an action
 
 -- The reply to an action that writes no cells leaves what the definition says, and its line is the definition's.
-pub record Replied (a : Action) (s : Session) (t : Tables) (r : Reply) (t' : Tables) : Type 0 where
+pub record Replied (a : Option Action) (s : Session) (t : Tables) (r : Reply) (t' : Tables) : Type 0 where
   pub sound : Sound r.session t'
   pub frame_is : frame r.session ≡ frame s
   pub is : turn (stands s t) a ≡ record { after = stands r.session t'; shown = []; line = told r.answer }
 
 -- The action is played once the line of its reply is put.
-pub turns_of : {a : Action} {s : Session} {t t' : Tables} {r : Reply} {way text text' : List ℕ} {used : ℕ} {x : Turned} → Replied a s t r t'
-    → (x.session ≡ r.session) × Put text used (told r.answer) x.used text' → Turns a s t way text used x t' way text'
-turns_of {a} {s} {t} {t'} {r} {way} {text} {text'} {used} {x} R p = record {
-  sound = subst (λ y. Sound y t') (sym p.0) R.sound;
-  frame_is = ap (λ y. frame y) p.0 ∙ R.frame_is;
-  after = ap (λ y. stands y t') p.0 ∙ sym (ap (λ y. y.after) R.is);
+pub turns_of : {a : Option Action} {s : Session} {t t' : Tables} {r : Reply} {way text text' : List ℕ} {used used' : ℕ} {x : Session} → Replied a s t r t'
+    → x ≡ r.session → Put text used (told r.answer) used' text' → Turns a s t way text used x t' way text' used'
+turns_of {a} {s} {t} {t'} {r} {way} R e p = record {
+  sound = subst (λ y. Sound y t') (sym e) R.sound;
+  frame_is = ap (λ y. frame y) e ∙ R.frame_is;
+  after = ap (λ y. stands y t') e ∙ sym (ap (λ y. y.after) R.is);
   shown = sym (ap (λ (y : Turn). written y.shown way) R.is);
-  line = put_as (sym (ap (λ y. y.line) R.is)) refl p.1;
+  line = put_as (sym (ap (λ y. y.line) R.is)) refl p;
 }
 
--- The line of a refusal.
-told_refused : (n : ℕ) → n ≢ 0 → told (answered n) ≡ refused_line n
-told_refused zero h = absurd (h refl)
-told_refused (suc n) h = refl
+-- The line of an answer by the number that it tells: none where it is done, that of the refusal else.
+told_done_line : (a : Result Unit Refusal) → told_by a ≡ told_number 0 → told a ≡ []
+told_done_line (Ok _) e = refl
+told_done_line (Err r) e = let n : ◌≡◌ {A = Name} name_refusal name_done = ap (λ (x : Told). x.name) e in let z : ◌≡◌ {A = ℕ} 0 1 = cc in absurd (omega arith)
+
+told_refused : (a : Result Unit Refusal) (n : ℕ) → n ≢ 0 → told_by a ≡ told_number n → told a ≡ refused_line n
+told_refused a zero h e = absurd (h refl)
+told_refused (Ok _) (suc n) h e = let n : ◌≡◌ {A = Name} name_done name_refusal = ap (λ (x : Told). x.name) e in let z : ◌≡◌ {A = ℕ} 0 1 = cc in absurd (omega arith)
+told_refused (Err r) (suc n) h e = ap refused_line (ap (λ x. x.number) e)
 
 -- What a call leaves by its number, and its line: where the definition refuses by the same number, they are the definition's.
-replied : (a : Action) {s : Session} {t t' : Tables} {number : ℕ} {next : Standing} {r : Reply}
+replied : (a : Option Action) {s : Session} {t t' : Tables} {number : ℕ} {next : Standing} {r : Reply}
     → (number ≡ 0 → turn (stands s t) a ≡ accepted next) → (number ≢ 0 → turn (stands s t) a ≡ refused (stands s t) number)
-    → r.answer ≡ answered number → Leaves s t number next r.session t' → Replied a s t r t'
+    → told_by r.answer ≡ told_number number → Leaves s t number next r.session t' → Replied a s t r t'
 replied a {s} {t} {t'} {number} {next} {r} done refuses e L = record { sound = L.sound; frame_is = L.frame_is; is = at (ℕ_discrete number 0) }
   where
     at : Dec (number ≡ 0) → turn (stands s t) a ≡ record { after = stands r.session t'; shown = []; line = told r.answer }
-    at (yes z) = done z ∙ ap accepted (sym (L.done z)) ∙ ap (λ y. record { after = stands r.session t'; shown = []; line = told y }) (sym (e ∙ ap answered z))
+    at (yes z) =
+        done z ∙ ap accepted (sym (L.done z))
+        ∙ ap (λ y. record { after = stands r.session t'; shown = []; line = y }) (sym (told_done_line r.answer (subst (λ k. told_by r.answer ≡ told_number k) z e)))
     at (no n) =
         refuses n ∙ ap (λ S. refused S number) (sym (L.refused n))
-        ∙ ap (λ y. record { after = stands r.session t'; shown = []; line = y }) (sym (ap told e ∙ told_refused number n))
+        ∙ ap (λ y. record { after = stands r.session t'; shown = []; line = y }) (sym (told_refused r.answer number n e))
 
 -- A cell that is refused is refused by 3.
 placed_three : {P : Type 0} {k : ℕ} → Ruled P 3 Passed k → k ≢ 0 → (k ≡ 3) × (P → ⊥)
@@ -91,26 +98,26 @@ placed_three (fails a) n = (refl, a)
 placed_three (holds p r) n = absurd (n (passed_zero r))
 
 -- Placing a cell.
-placed_replied : (a : Action) {s placed : Session} {t : Tables} {cell : ℕ} {next : Standing} {r : Reply}
+placed_replied : (a : Option Action) {s placed : Session} {t : Tables} {cell : ℕ} {next : Standing} {r : Reply}
     → turn (stands s t) a ≡ choose (dec_lt cell (cells s)) (accepted next) (refused (stands s t) 3)
     → Sound s t → (P : Places s placed cell r) → Leaves s t P.number next r.session t → Replied a s t r t
 placed_replied a {s} {t = t} {cell = cell} e S P =
     replied a (λ z. e ∙ choose_yes (dec_lt cell (cells s)) _ _ (place_granted s P.rules z).1)
-    (λ n. let q = placed_three (onward S.plan.size P.rules) n in e ∙ choose_no (dec_lt cell (cells s)) _ _ q.1 ∙ ap (refused (stands s t)) (sym q.0)) (place_answer P)
+    (λ n. let q = placed_three (onward S.plan.size P.rules) n in e ∙ choose_no (dec_lt cell (cells s)) _ _ q.1 ∙ ap (refused (stands s t)) (sym q.0)) P.answer
 
-pub hunter_replied : {s : Session} {t : Tables} {cell : ℕ} {r : Reply} → Sound s t → Places s (hunter_at s cell) cell r → Replied (Hunter cell) s t r t
+pub hunter_replied : {s : Session} {t : Tables} {cell : ℕ} {r : Reply} → Sound s t → Places s (hunter_at s cell) cell r → Replied (Some (Hunter cell)) s t r t
 unfolding turn
-hunter_replied {cell = cell} S P = placed_replied (Hunter cell) refl S P (hunter_leaves S P)
+hunter_replied {cell = cell} S P = placed_replied (Some (Hunter cell)) refl S P (hunter_leaves S P)
 
-pub target_replied : {s : Session} {t : Tables} {cell : ℕ} {r : Reply} → Sound s t → Places s (target_at s cell) cell r → Replied (Target cell) s t r t
+pub target_replied : {s : Session} {t : Tables} {cell : ℕ} {r : Reply} → Sound s t → Places s (target_at s cell) cell r → Replied (Some (Target cell)) s t r t
 unfolding turn
-target_replied {cell = cell} S P = placed_replied (Target cell) refl S P (target_leaves S P)
+target_replied {cell = cell} S P = placed_replied (Some (Target cell)) refl S P (target_leaves S P)
 
 -- Changing a move.
-pub change_replied : {s : Session} {t t' : Tables} {u d cost : ℕ} {r : Reply} → Sound s t → Changes s t u d cost r t' → Replied (Change u d cost) s t r t'
+pub change_replied : {s : Session} {t t' : Tables} {u d cost : ℕ} {r : Reply} → Sound s t → Changes s t u d cost r t' → Replied (Some (Change u d cost)) s t r t'
 unfolding turn
 change_replied {s} {t} {u = u} {d} {cost} S P =
-    replied (Change u d cost) (λ z. choose_yes test _ _ (sym n_is ∙ z)) (λ n. choose_no test _ _ (λ e. n (n_is ∙ e)) ∙ ap (refused (stands s t)) (sym n_is)) (change_answer P) (change_leaves S P)
+    replied (Some (Change u d cost)) (λ z. choose_yes test _ _ (sym n_is ∙ z)) (λ n. choose_no test _ _ (λ e. n (n_is ∙ e)) ∙ ap (refused (stands s t)) (sym n_is)) P.answer (change_leaves S P)
   where
     n_is : P.number ≡ move_number (floor s t.plan) u d cost
     n_is = move_number_is s t.plan (onward S (onward (sound_fits S) (onward S.plan.size P.rules)))
@@ -141,7 +148,7 @@ module _ {s : Session} {t t' : Tables} {way way' : List ℕ} {r : Outcome} (S : 
   line_is method_session.cut_off = refl
 
   -- What it leaves, the cells that it writes, and its line, are the definition's.
-  pub search_is : turn (stands s t) Search ≡ record { after = stands r.session t'; shown = cells_of (outcome s t).answer; line = line r.answer (take (count_of r.answer) way') }
+  pub search_is : turn (stands s t) (Some Search) ≡ record { after = stands r.session t'; shown = cells_of (outcome s t).answer; line = line r.answer (take (count_of r.answer) way') }
   unfolding turn searches
   search_is = sym (ap (λ y. with_line y printed) ((search_leaves S searches).done refl) ∙ ap (with_line (searched (stands s t))) printed_is)
     where
@@ -153,11 +160,11 @@ module _ {s : Session} {t t' : Tables} {way way' : List ℕ} {r : Outcome} (S : 
 
       printed_is : printed ≡ line (answer_of (outcome s t).answer) (cells_of (outcome s t).answer)
       printed_is =
-          ap (λ (a : search_answer.Answer). line a (take (count_of a) way')) (searched_answer D)
+          ap (λ (a : Result search_answer.Answer Refusal). line a (take (count_of a) way')) (searched_answer D)
           ∙ ap (λ w. line (answer_of (outcome s t).answer) (take (count_of (answer_of (outcome s t).answer)) w)) D.shown ∙ line_is (outcome s t).answer
 
   pub search_turns : {text text' : List ℕ} {used end : ℕ} → Put text used (line r.answer (take (count_of r.answer) way')) end text'
-      → Turns Search s t way text used (record { session = r.session; used = end }) t' way' text'
+      → Turns (Some Search) s t way text used r.session t' way' text' end
   search_turns p = record {
     sound = (demand_3 S way long searches).sound_again;
     frame_is = D.frame_is;
@@ -168,16 +175,21 @@ module _ {s : Session} {t t' : Tables} {way way' : List ℕ} {r : Outcome} (S : 
 
 -- ---- a badly formed action, which no file that is played has
 
-pub bad_turns : {s : Session} {t : Tables} {way text : List ℕ} {used : ℕ} → Sound s t → Turns Bad s t way text used (record { session = s; used = used }) t way text
+bad_turns : {s : Session} {t : Tables} {way text : List ℕ} {used : ℕ} → Sound s t → Turns None s t way text used s t way text used
 unfolding turn
 bad_turns S = record { sound = S; frame_is = refl; after = refl; shown = refl; line = put_nothing _ _ }
 
 -- ---- the action at a place
 
 -- What was played is the action that was read.
-pub turns_at : {x a b : Action} {s : Session} {t t' : Tables} {way way' text text' : List ℕ} {used : ℕ} {r : Turned} → x ≡ a → x ≡ b → Turns a s t way text used r t' way' text'
-    → Turns b s t way text used r t' way' text'
-turns_at {s = s} {t} {t'} {way} {way'} {text} {text'} {used} {r} e f T = subst (λ y. Turns y s t way text used r t' way' text') (sym e ∙ f) T
+pub turns_at : {o : Option Action} {x a : Action} {s : Session} {t t' : Tables} {way way' text text' : List ℕ} {used used' : ℕ} {r : Session} → o ≡ Some x → x ≡ a
+    → Turns (Some a) s t way text used r t' way' text' used' → Turns o s t way text used r t' way' text' used'
+turns_at {s = s} {t} {t'} {way} {way'} {text} {text'} {used} {used'} {r} e f T = subst (λ y. Turns y s t way text used r t' way' text' used') (sym (e ∙ ap Some f)) T
+
+-- Where none is read, nothing is played.
+pub no_turn : {o : Option Action} {s : Session} {t : Tables} {way text : List ℕ} {used : ℕ} → ((x : Action) → o ≡ Some x → ⊥) → Sound s t → Turns o s t way text used s t way text used
+no_turn {o = None} n S = bad_turns S
+no_turn {o = Some x} n S = absurd (n x refl)
 
 -- ---- the definitions of actions one after the other
 
@@ -188,20 +200,20 @@ actions_more file at zero m = let e : zero + m ≡ m = omega arith in let f : at
 actions_more file at (suc n) m =
     let e : suc n + m ≡ suc (n + m) = omega arith in
     let f : at + 5 + 5 * n ≡ at + 5 * suc n = omega arith in
-    ap (actions_from file at) e ∙ ap (λ (l : List Action). action_at file at ∷ l) (actions_more file (at + 5) n m ∙ ap (λ k. actions_from file (at + 5) n ++ actions_from file k m) f)
+    ap (actions_from file at) e ∙ ap (λ (l : List (Option Action)). action_at file at ∷ l) (actions_more file (at + 5) n m ∙ ap (λ k. actions_from file (at + 5) n ++ actions_from file k m) f)
 
 -- What they print, what they leave, and what they leave in the way list.
-pub played_more : (S : Standing) (l m : List Action) → played S (l ++ m) ≡ played S l ++ played (left_by S l) m
+pub played_more : (S : Standing) (l m : List (Option Action)) → played S (l ++ m) ≡ played S l ++ played (left_by S l) m
 unfolding played left_by
 played_more S [] m = refl
 played_more S (a ∷ l) m = ap (λ (x : List ℕ). (turn S a).line ++ x) (played_more (turn S a).after l m) ∙ sym (append_assoc (turn S a).line (played (turn S a).after l) _)
 
-left_more : (S : Standing) (l m : List Action) → left_by S (l ++ m) ≡ left_by (left_by S l) m
+left_more : (S : Standing) (l m : List (Option Action)) → left_by S (l ++ m) ≡ left_by (left_by S l) m
 unfolding left_by
 left_more S [] m = refl
 left_more S (a ∷ l) m = left_more (turn S a).after l m
 
-way_more : (S : Standing) (l m : List Action) (way : List ℕ) → way_left S (l ++ m) way ≡ way_left (left_by S l) m (way_left S l way)
+way_more : (S : Standing) (l m : List (Option Action)) (way : List ℕ) → way_left S (l ++ m) way ≡ way_left (left_by S l) m (way_left S l way)
 unfolding left_by way_left
 way_more S [] m way = refl
 way_more S (a ∷ l) m way = way_more (turn S a).after l m (written (turn S a).shown way)
@@ -238,10 +250,10 @@ module _ {file : List ℕ} {s : Session} {t : Tables} {way₀ : List ℕ} {start
   going_ready l m = record { sound = G.sound; way_room = omega (arith, l, going_cells); text_room = omega (arith, m, going_cells) }
 
   -- One more action is played.
-  pub going_more : {t'' : Tables} {way' text' : List ℕ} {r : Turned} → 0 < left → Turns (action_at file at) now t' way text used r t'' way' text'
-      → Going file s t way₀ start actions text₀ r.session t'' way' text' (at + 5) (left - 1) r.used
+  pub going_more : {t'' : Tables} {way' text' : List ℕ} {used' : ℕ} {r : Session} → 0 < left → Turns (action_at file at) now t' way text used r t'' way' text' used'
+      → Going file s t way₀ start actions text₀ r t'' way' text' (at + 5) (left - 1) used'
   unfolding actions_from played left_by way_left
-  going_more {t''} {way'} {text'} {r} l T = record {
+  going_more {t''} {way'} {text'} l T = record {
     done = G.done + 1;
     all = omega (arith, G.all);
     place = omega (arith, G.place);
@@ -258,10 +270,10 @@ module _ {file : List ℕ} {s : Session} {t : Tables} {way₀ : List ℕ} {start
       S : Standing
       S = stands s t
 
-      before : List Action
+      before : List (Option Action)
       before = actions_from file start G.done
 
-      a : Action
+      a : Option Action
       a = action_at file (start + 5 * G.done)
 
       next : actions_from file start (G.done + 1) ≡ before ++ (a ∷ [])
@@ -279,7 +291,7 @@ module _ {file : List ℕ} {s : Session} {t : Tables} {way₀ : List ℕ} {start
   none_used z = G.lines.end ∙ ap (λ k. 0 + length (played (stands s t) (actions_from file start k))) z
 
   -- Playing stops: none is left over, or the text has no room for another line.
-  pub going_stops : (left ≡ 0) ⊎ (length text₀ < used + room (cells s)) → Plays file s t way₀ start actions text₀ (record { session = now; at = at; left = left; used = used }) t' way text
+  pub going_stops : (left ≡ 0) ⊎ (length text₀ < used + room (cells s)) → Plays file s t way₀ start actions text₀ (record { session = now; at = at; left = left }) t' way text used
   going_stops e = record {
     done = G.done;
     all = G.all;

@@ -1,6 +1,7 @@
 -- What an action leaves and prints is what the public call leaves and answers.
 use mathlib.Core.Path.{◌≡◌}
 use mathlib.Core.List.{List, []}
+use Rattle.std.specs.Prelude.{Some}
 use Prim.Native.Nat.{ℕ, ◌≤◌}
 use lib.ListN.{length, take}
 use Rattle.tables.specs.declared.Session.{Session}
@@ -22,17 +23,17 @@ use Rattle.drill.proofs.PlayLaws.{hunter_replied, target_replied, change_replied
 
 -- The line of an action is that of the public call's own answer, whatever result its statement allows.
 pub hunter_printed : {s : Session} {t : Tables} {cell : ℕ} {r : Reply} → Sound s t → Places s (hunter_at s cell) cell r
-    → turn (stands s t) (Hunter cell) ≡ record { after = stands r.session t; shown = []; line = told r.answer }
+    → turn (stands s t) (Some (Hunter cell)) ≡ record { after = stands r.session t; shown = []; line = told r.answer }
 hunter_printed S P = (hunter_replied S P).is
 
 pub target_printed : {s : Session} {t : Tables} {cell : ℕ} {r : Reply} → Sound s t → Places s (target_at s cell) cell r
-    → turn (stands s t) (Target cell) ≡ record { after = stands r.session t; shown = []; line = told r.answer }
+    → turn (stands s t) (Some (Target cell)) ≡ record { after = stands r.session t; shown = []; line = told r.answer }
 target_printed S P = (target_replied S P).is
 
 pub change_printed : {s : Session} {t t' : Tables} {u d cost : ℕ} {r : Reply} → Sound s t → Changes s t u d cost r t'
-    → turn (stands s t) (Change u d cost) ≡ record { after = stands r.session t'; shown = []; line = told r.answer }
+    → turn (stands s t) (Some (Change u d cost)) ≡ record { after = stands r.session t'; shown = []; line = told r.answer }
 change_printed S P = (change_replied S P).is
 
 pub search_printed : {s : Session} {t t' : Tables} (way : List ℕ) {way' : List ℕ} {r : Outcome} → Sound s t → cells s ≤ length way → Searches s t way r t' way'
-    → turn (stands s t) Search ≡ record { after = stands r.session t'; shown = cells_of (outcome s t).answer; line = line r.answer (take (count_of r.answer) way') }
+    → turn (stands s t) (Some Search) ≡ record { after = stands r.session t'; shown = cells_of (outcome s t).answer; line = line r.answer (take (count_of r.answer) way') }
 search_printed way S long P = search_is S long (not_refused way S long P)

@@ -1,5 +1,5 @@
 -- The actions of a drill, one after the other: what each leaves, and the line that it prints.
-use Rattle.std.specs.Prelude.{List, [], ◌∷◌, ◌++◌, ℕ}
+use Rattle.std.specs.Prelude.{Option, Some, None, List, [], ◌∷◌, ◌++◌, ℕ}
 use Rattle.std.proofs.Math.Decide.{ℕ_discrete, dec_lt}
 use Rattle.decide.specs.Choose.{choose}
 use Rattle.method.specs.Tables as method
@@ -12,7 +12,7 @@ use Rattle.answer.specs.Answer.{answer_of, cells_of}
 use Rattle.search.specs.Promise.{written}
 use Rattle.standing.specs.Standing.{Standing, floor_at, graph_at, changed, hunter_at, target_at, search_at, searched}
 use Rattle.drill_file.specs.declared.Action.{Action}
-use Rattle.drill_file.specs.declared.Action.TheVariants.{Change, Hunter, Target, Search, Bad}
+use Rattle.drill_file.specs.declared.Action.TheVariants.{Change, Hunter, Target, Search}
 use Rattle.lines.specs.Lines.{refused_line, line}
 use Rattle.drill.specs.Numbers.{move_number}
 
@@ -34,25 +34,25 @@ abbrev pub answered : Standing → method_session.Answer → Turn
 answered S a = record { after = S; shown = cells_of a; line = line (answer_of a) (cells_of a) }
 
 -- One action. A badly formed one is in no file that is played.
-unfoldable pub turn : Standing → Action → Turn
-turn S (Change u d cost) = choose (ℕ_discrete (move_number (floor_at S) u d cost) 0) (accepted (changed S u d cost)) (refused S (move_number (floor_at S) u d cost))
-turn S (Hunter s) = choose (dec_lt s (cells (floor_at S))) (accepted (hunter_at S s)) (refused S 3)
-turn S (Target s) = choose (dec_lt s (cells (floor_at S))) (accepted (target_at S s)) (refused S 3)
-turn S Search = answered (searched S) (search_at S).answer
-turn S Bad = accepted S
+unfoldable pub turn : Standing → Option Action → Turn
+turn S (Some (Change u d cost)) = choose (ℕ_discrete (move_number (floor_at S) u d cost) 0) (accepted (changed S u d cost)) (refused S (move_number (floor_at S) u d cost))
+turn S (Some (Hunter s)) = choose (dec_lt s (cells (floor_at S))) (accepted (hunter_at S s)) (refused S 3)
+turn S (Some (Target s)) = choose (dec_lt s (cells (floor_at S))) (accepted (target_at S s)) (refused S 3)
+turn S (Some Search) = answered (searched S) (search_at S).answer
+turn S None = accepted S
 
 -- What the actions print, in order.
-unfoldable pub played : Standing → List Action → List ℕ
+unfoldable pub played : Standing → List (Option Action) → List ℕ
 played S [] = []
 played S (a ∷ l) = let t = turn S a in t.line ++ played t.after l
 
 -- What they leave.
-unfoldable pub left_by : Standing → List Action → Standing
+unfoldable pub left_by : Standing → List (Option Action) → Standing
 left_by S [] = S
 left_by S (a ∷ l) = left_by (turn S a).after l
 
 -- What they leave in the way list.
-unfoldable pub way_left : Standing → List Action → List ℕ → List ℕ
+unfoldable pub way_left : Standing → List (Option Action) → List ℕ → List ℕ
 way_left S [] way = way
 way_left S (a ∷ l) way = let t = turn S a in way_left t.after l (written t.shown way)
 
@@ -78,10 +78,10 @@ taken_in S =
     taken_from (method_session.hunt_of (graph_at S) taken.session) taken.tables (search_at S).steps
 
 -- The steps of each search among the actions.
-unfoldable pub taken_by : Standing → List Action → List (List Taken)
+unfoldable pub taken_by : Standing → List (Option Action) → List (List Taken)
 taken_by S [] = []
-taken_by S (Search ∷ l) = taken_in S ∷ taken_by (turn S Search).after l
-taken_by S (Change u d cost ∷ l) = taken_by (turn S (Change u d cost)).after l
-taken_by S (Hunter s ∷ l) = taken_by (turn S (Hunter s)).after l
-taken_by S (Target s ∷ l) = taken_by (turn S (Target s)).after l
-taken_by S (Bad ∷ l) = taken_by S l
+taken_by S (Some Search ∷ l) = taken_in S ∷ taken_by (turn S (Some Search)).after l
+taken_by S (Some (Change u d cost) ∷ l) = taken_by (turn S (Some (Change u d cost))).after l
+taken_by S (Some (Hunter s) ∷ l) = taken_by (turn S (Some (Hunter s))).after l
+taken_by S (Some (Target s) ∷ l) = taken_by (turn S (Some (Target s))).after l
+taken_by S (None ∷ l) = taken_by S l

@@ -1,12 +1,14 @@
--- A file refused or opened: the number that is found, the plan that is copied, and what a fresh start on it leaves.
+-- A file refused or opened: the number that is found, and what a fresh start on its plan leaves.
 use mathlib.Core.Path.{◌≡◌, refl, sym, ap, subst, ◌∙◌}
 use mathlib.Core.Logic.{◌≢◌}
 use mathlib.Core.List.{List}
-use Prim.Native.Nat.{ℕ, ◌+◌, ◌*◌, ◌≤◌, ◌<◌}
-use native.Mathlib.Numerals.{add-one}
+use Prim.Native.Nat.{ℕ, ◌*◌, ◌≤◌}
 use native.Mathlib.Omega.{arith}
-use lib.ListN.{length, take, set, get_or}
-use lib.Seq.{take-suc, take-length, length-take-le}
+use lib.ListN.{length, take}
+use lib.Seq.{length-take-le}
+use Rattle.refusal.specs.declared.Refusal.{Refusal}
+use Rattle.refusal.specs.Numbers.{number_of}
+use Rattle.refusal.proofs.NumberLaws.{numbered}
 use Rattle.method.specs.Session as method_session
 use Rattle.tables.specs.declared.Session.{Session}
 use Rattle.tables.specs.Lent.{Tables, Frame, frame_of_size, floor_in, core, Fits}
@@ -19,25 +21,18 @@ use Rattle.standing.specs.Standing.{standing, stands, opened}
 use Rattle.drill_file.specs.declared.Trailer.{Trailer}
 use Rattle.drill_file.specs.File.{trailer_of, trailer_in, cells, cells_in, form_number}
 use Rattle.drill_file.proofs.FileLaws.{trailer_there}
-use Rattle.text.specs.Put.{Put}
-use Rattle.text.proofs.PutLaws.{put_byte, put_then, put_as}
 use Rattle.drill.specs.declared.Played.{Played}
 use Rattle.drill_file.specs.Numbers.{open_number, plan_in, file_number}
-use Rattle.drill_file.proofs.NumberLaws.{formed, file_number_is, cells_formed}
+use Rattle.drill_file.proofs.NumberLaws.{form_refused, formed, file_number_is, cells_formed}
 use Rattle.drill.specs.Output.{frame_in, begun}
 use Rattle.drill.specs.Promises.{Refuses, Starts, Begins}
 use Rattle.drill.proofs.NumberLaws.{open_number_is, number_opens}
 
--- ---- the plan copied
+-- ---- a file of wrong form
 
--- One more byte is copied.
-pub copied_more : {b a : List ℕ} (file : List ℕ) (i : ℕ) → i < length b → i < length file → Put b 0 (take i file) i a → Put b 0 (take (i + 1) file) (i + 1) (set a i (get_or file i 0))
-copied_more {b} {a} file i lb lf p =
-    put_as (sym (take-suc file i 0 lf) ∙ ap (λ k. take k file) (sym (add-one i))) refl (put_then p (put_byte a i (get_or file i 0) (omega (arith, p.long))))
-
--- All of it is copied.
-pub copied_all : {b a : List ℕ} (file : List ℕ) (i : ℕ) → i ≡ length b → Put b 0 (take i file) i a → a ≡ take (length b) file
-copied_all {b} {a} file i e p = sym (ap (λ k. take k a) (e ∙ sym p.long) ∙ take-length a) ∙ p.stands ∙ ap (λ k. take k file) e
+-- The number of its form is the file's.
+pub form_refuses : (file : List ℕ) (r : Refusal) → number_of r ≡ form_number file → number_of r ≡ file_number file
+form_refuses file r e = e ∙ sym (form_refused file (λ z. omega (arith, numbered r, e, z)))
 
 -- ---- a file of right form, on tables of its size
 
@@ -50,8 +45,12 @@ module _ (file : List ℕ) {t : Tables} (fits : Fits (cells_in file) t) (formed_
   plan_is = fits.plan ∙ ap (λ n. 4 * n) (cells_formed file formed_right)
 
   -- It has more bytes than its plan.
-  pub plan_in_file : length t.plan ≤ length file
+  plan_in_file : length t.plan ≤ length file
   plan_in_file = let F = formed file formed_right in omega (arith, plan_is, F.offset, F.whole)
+
+  -- Its first bytes, as many as the plan has.
+  pub plan_there : length t.plan ≡ length (take (length t.plan) file)
+  plan_there = sym (length-take-le (length t.plan) file plan_in_file)
 
   -- What was read as its trailer is its trailer.
   is_trailer : {x : Trailer} → x ≡ trailer_in file → x ≡ trailer_of file
@@ -94,8 +93,8 @@ module _ (file : List ℕ) {t : Tables} (fits : Fits (cells_in file) t) (formed_
     -- .. which leaves what the definition says.
     pub starts : {x : Trailer} {s : Session} {t' : Tables} {text : List ℕ} {r : Played} → x ≡ trailer_in file → file_number file ≡ 0
         → (s ≡ begun_record (frame_told x) x.hunter x.target) × Opened (frame_told x) x.hunter x.target (with_plan t plan) t'
-        → r ≡ record { session = s; at = x.offset; left = x.actions; used = 0 } → Starts file text r t' text
-    starts {x} {s} {t'} {text} e z d is = subst (λ (r : Played). Starts file text r t' text) (sym is) (record {
+        → r ≡ record { session = s; at = x.offset; left = x.actions } → Starts file text r t' text 0
+    starts {x} {s} {t'} {text} e z d is = subst (λ (r : Played). Starts file text r t' text 0) (sym is) (record {
       sound = subst (λ y. Sound y t') (sym d.0) (fresh_sound (openable e z) d.1);
       after = left (subst (λ (y : Trailer). (s ≡ begun_record (frame_told y) y.hunter y.target) × Opened (frame_told y) y.hunter y.target (with_plan t plan) t') (is_trailer e) d);
       place = ap (λ (y : Trailer). y.offset) (is_trailer e);
@@ -117,9 +116,5 @@ module _ (file : List ℕ) {t : Tables} (fits : Fits (cells_in file) t) (formed_
 
 -- ---- refused or opened
 
-pub begins_refused : {file : List ℕ} {t : Tables} {text : List ℕ} {r : Played} {text' : List ℕ} {number : ℕ} → number ≡ file_number file → number ≢ 0 → Refuses number text r text'
-    → Begins file t text r t text'
-begins_refused {text = text} {r} {text'} e n R = record { refused = λ _. (subst (λ k. Refuses k text r text') e R, refl); opened = λ z. absurd (n (e ∙ z)) }
-
-pub begins_opened : {file : List ℕ} {t : Tables} {text : List ℕ} {r : Played} {t' : Tables} {text' : List ℕ} → file_number file ≡ 0 → Starts file text r t' text' → Begins file t text r t' text'
+pub begins_opened : {file : List ℕ} {t : Tables} {text : List ℕ} {r : Played} {t' : Tables} {text' : List ℕ} {used : ℕ} → file_number file ≡ 0 → Starts file text r t' text' used → Begins file t text r t' text' used
 begins_opened z S = record { refused = λ n. absurd (n z); opened = λ _. S }

@@ -1,63 +1,41 @@
 // Playing: the actions of a drill, read through one reader that moves.
 #![tactic(auto)]
 
-ghost use Rattle.tables.specs.Lent.{tables};
+ghost use Rattle.tables.specs.Lent.{lent};
 ghost use Rattle.drill.specs.Promises.{Playing, Plays};
 
 use drill;
-use drill::{Played, Turned};
-use drill_file;
+use drill::Played;
 use drill_file::Reader;
-use tables::Session;
+use tables::{Ahead, Session};
+use text::Text;
 
-// Plays the actions that are left over, as long as the text has room for the longest line. The reader passed goes through them.
+// Plays the actions that are left over, as long as the emptied text has room for the longest line. The reader passed goes through them.
 pub fn play<'a>(
     r: Reader<'a>,
     actions: usize,
     s: Session,
     plan: &mut [u8],
     g: &mut [u32],
-    rhs: &mut [u32],
-    parent: &mut [u8],
-    k1: &mut [u32],
-    k2: &mut [u32],
-    place: &mut [u16],
-    list: &mut [u16],
+    ahead: &mut Ahead,
     way: &mut [u16],
-    text: &mut [u8],
+    text: &mut Text,
 ) -> Played
-    requires { Playing r.file.now s (tables plan.old g.old rhs.old parent.old k1.old k2.old place.old list.old) way.old r.at actions }
-    ensures { Plays r.entry.file.now s (tables plan.old g.old rhs.old parent.old k1.old k2.old place.old list.old) way.old r.entry.at actions text.old result (tables plan.new g.new rhs.new parent.new k1.new k2.new place.new list.new) way.new text.new }
+    requires { Playing r.file.now s (lent plan.old g.old ahead.old) way.old r.at actions }
+    ensures { Plays r.entry.file.now s (lent plan.old g.old ahead.old) way.old r.entry.at actions text.old.room.now result (lent plan.new g.new ahead.new) way.new text.new.room.now text.new.used }
 {
+    text.used = 0;
     let mut reader = r;
-    let mut turned = Turned {
-        session: s,
-        used: 0,
-    };
+    let mut session = s;
     let mut left = actions;
-    while drill::goes_on(turned.session, left, turned.used, text.len()) {
-        turned = drill::play_action(
-            drill_file::next(reader),
-            turned.session,
-            plan,
-            g,
-            rhs,
-            parent,
-            k1,
-            k2,
-            place,
-            list,
-            way,
-            text,
-            turned.used,
-        );
-        reader = drill_file::moved(reader);
+    while drill::goes_on(session, left, text.used, text.room.len()) {
+        session = drill::play_action(reader.next(), session, plan, g, ahead, way, text);
+        reader = reader.moved();
         left -= 1;
     }
     Played {
-        session: turned.session,
+        session,
         at: reader.at,
         left,
-        used: turned.used,
     }
 }

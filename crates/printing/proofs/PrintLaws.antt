@@ -50,43 +50,43 @@ module _ {input : List ℕ} {got : ℕ} {file : List ℕ} {s : Session} {t : Tab
   pub all_done : left ≡ 0 → WrittenTo (length (output file)) count
   all_done e = ⊎_elim (λ (f : (left ≡ 0) × (count ≡ None)). inr f.1) (λ (P : Printing input got file s t way at left text count). inl (P.counted ∙ ap Some (all_printed at e P.unprinted))) F
 
-module _ {input : List ℕ} {got : ℕ} {file : List ℕ} {s : Session} {t : Tables} {way : List ℕ} {at left : ℕ} {text : List ℕ} {count : Option ℕ} {r : Played} {t' : Tables} {way' text' : List ℕ}
-    (P : Printing input got file s t way at left text count) (Q : Plays file s t way at left text r t' way' text') (l : 0 < left) where
+module _ {input : List ℕ} {got : ℕ} {file : List ℕ} {s : Session} {t : Tables} {way : List ℕ} {at left : ℕ} {text : List ℕ} {count : Option ℕ} {r : Played} {t' : Tables} {way' text' : List ℕ} {used : ℕ}
+    (P : Printing input got file s t way at left text count) (Q : Plays file s t way at left text r t' way' text' used) (l : 0 < left) where
   fewer : r.left < left
   fewer = rest_fewer Q P.text_room l
 
-  put : r.used ≤ length text'
+  put : used ≤ length text'
   put = put_end Q.lines (omega arith)
 
   same : length text' ≡ length text
   same = Q.lines.long
 
   -- What stands in the text can be printed.
-  pub piece : Piece input got text' r.used count
+  pub piece : Piece input got text' used count
   piece = record {
     read = P.read;
     put = put;
     written = P.written;
     counted = P.counted;
-    next = subst (λ (f : List ℕ). NextPiece f P.written (take r.used text')) P.part (next_piece Q P.unprinted);
+    next = subst (λ (f : List ℕ). NextPiece f P.written (take used text')) P.part (next_piece Q P.unprinted);
   }
 
-  module _ (n : ℕ) (count' : Option ℕ) (M : Moves n r.left 0 r.used count count') where
+  module _ (n : ℕ) (count' : Option ℕ) (M : Moves n r.left 0 used count count') where
     -- It is printed, or a write failed: so far.
     pub next_so_far : length way' ≡ length way → SoFar input got file r.session t' way' text' r.at n count'
-    next_so_far e = ⊎_elim (λ (m : (n ≡ r.left) × (count' ≡ option_map (λ written. written + r.used) count)). inr (onward m.0 m.1)) (λ (f : (n ≡ 0) × (count' ≡ None)). inl f) M
+    next_so_far e = ⊎_elim (λ (m : (n ≡ r.left) × (count' ≡ option_map (λ written. written + used) count)). inr (onward m.0 m.1)) (λ (f : (n ≡ 0) × (count' ≡ None)). inl f) M
       where
-        onward : n ≡ r.left → count' ≡ option_map (λ written. written + r.used) count → Printing input got file r.session t' way' r.at n text' count'
+        onward : n ≡ r.left → count' ≡ option_map (λ written. written + used) count → Printing input got file r.session t' way' r.at n text' count'
         onward same_left moved = record {
           read = P.read;
           part = P.part;
           playing = subst (λ (k : ℕ). Playing file r.session t' way' r.at k) (sym same_left) (rest_playing Q e P.playing);
           text_room = omega (arith, same_cells Q, P.text_room, same);
-          written = P.written + r.used;
-          counted = moved ∙ ap (option_map (λ written. written + r.used)) P.counted;
-          unprinted = subst (λ (k : ℕ). Unprinted file (P.written + r.used) (stands r.session t') (actions_from file r.at k)) (sym same_left) (next_printed Q P.unprinted refl);
+          written = P.written + used;
+          counted = moved ∙ ap (option_map (λ written. written + used)) P.counted;
+          unprinted = subst (λ (k : ℕ). Unprinted file (P.written + used) (stands r.session t') (actions_from file r.at k)) (sym same_left) (next_printed Q P.unprinted refl);
         }
 
     -- There is less left over.
     pub next_fewer : n < left
-    next_fewer = ⊎_elim (λ (m : (n ≡ r.left) × (count' ≡ option_map (λ written. written + r.used) count)). omega (arith, m.0, fewer)) (λ (f : (n ≡ 0) × (count' ≡ None)). omega (arith, f.0, l)) M
+    next_fewer = ⊎_elim (λ (m : (n ≡ r.left) × (count' ≡ option_map (λ written. written + used) count)). omega (arith, m.0, fewer)) (λ (f : (n ≡ 0) × (count' ≡ None)). omega (arith, f.0, l)) M

@@ -2,15 +2,16 @@
 #![tactic(auto)]
 
 ghost use Rattle.std.specs.Prelude.{◌≡◌, ◌+◌, ◌≤◌, length, take};
-ghost use Rattle.tables.specs.Lent.{tables};
+ghost use Rattle.tables.specs.Lent.{lent};
 ghost use Rattle.drill.specs.Output.{output};
 ghost use Rattle.printing.specs.Promises.{Piece, Printing, Moves, WrittenTo};
 
 use drill::Played;
-use drill_file;
+use drill_file::Reader;
 use failure;
 use play;
-use tables::Session;
+use tables::{Ahead, Session};
+use text::Text;
 
 // The file: the first `got` bytes of the input, which were read.
 pub fn file_in(input: &[u8], got: usize) -> &[u8]
@@ -20,27 +21,27 @@ pub fn file_in(input: &[u8], got: usize) -> &[u8]
     &input[0..got]
 }
 
-// The one function that writes to standard output, and the one that moves the count on. The first `used` bytes of the text are the next piece of the output of the file, the first `got` bytes of the input.
+// The one function that writes to standard output, and the one that moves the count on. The text is the next piece of the output of the file, the first `got` bytes of the input.
 // What is then left to play: nothing once a write has failed, which is told.
 fn write_piece<R: Print + Eprint>(
     rt: &R,
     input: &[u8],
     got: usize,
-    text: &[u8],
-    used: usize,
+    text: &Text,
     left: usize,
     count: &mut Option<usize>,
 ) -> usize
-    requires { Piece input.now got text.now used count.old }
-    ensures { Moves result left 0 used count.old count.new }
+    requires { Piece input.now got text.now.room.now text.now.used count.old }
+    ensures { Moves result left 0 text.now.used count.old count.new }
 {
-    if let Err(why) = rt.write_all(&text[0..used]) {
+    let room = &*text.room;
+    if let Err(why) = rt.write_all(&room[..text.used]) {
         failure::tell(rt, "write", why);
         *count = None;
         return 0;
     }
     if let Some(written) = count {
-        *written += used;
+        *written += text.used;
     }
     left
 }
@@ -50,14 +51,14 @@ pub fn print<R: Print + Eprint>(
     rt: &R,
     input: &[u8],
     got: usize,
-    text: &[u8],
+    text: &Text,
     played: Played,
     count: &mut Option<usize>,
 ) -> usize
-    requires { Piece input.now got text.now played.used count.old }
-    ensures { Moves result played.left 0 played.used count.old count.new }
+    requires { Piece input.now got text.now.room.now text.now.used count.old }
+    ensures { Moves result played.left 0 text.now.used count.old count.new }
 {
-    write_piece(rt, input, got, text, played.used, played.left, count)
+    write_piece(rt, input, got, text, played.left, count)
 }
 
 // Plays the actions left over of an opened file and prints each piece. One reader is made, and it goes through them all.
@@ -72,27 +73,20 @@ pub fn play_all<R: Print + Eprint>(
     count: &mut Option<usize>,
     plan: &mut [u8],
     g: &mut [u32],
-    rhs: &mut [u32],
-    parent: &mut [u8],
-    k1: &mut [u32],
-    k2: &mut [u32],
-    place: &mut [u16],
-    list: &mut [u16],
+    ahead: &mut Ahead,
     way: &mut [u16],
-    text: &mut [u8],
+    text: &mut Text,
 )
-    requires { Printing input.now got file.now s (tables plan.old g.old rhs.old parent.old k1.old k2.old place.old list.old) way.old start actions text.old count.old }
+    requires { Printing input.now got file.now s (lent plan.old g.old ahead.old) way.old start actions text.old.room.now count.old }
     ensures { WrittenTo (length (output file.now)) count.new }
 {
-    let mut r = drill_file::reading(file, start);
+    let mut r = Reader::new(file, start);
     let mut session = s;
     let mut left = actions;
     while 0 < left {
-        let played = play::play(
-            r, left, session, plan, g, rhs, parent, k1, k2, place, list, way, text,
-        );
+        let played = play::play(r, left, session, plan, g, ahead, way, text);
         left = print(rt, input, got, text, played, count);
-        r = drill_file::moved_to(r, played.at);
+        r = r.moved_to(played.at);
         session = played.session;
     }
 }

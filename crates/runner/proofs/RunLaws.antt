@@ -35,7 +35,7 @@ parts_room x e = omega (arith, cells_few x)
 
 -- What was read can be run on the parts that it asks for.
 pub running : {plan g rhs parent k1 k2 place list way text : List ℕ} {input : List ℕ} {got : ℕ} {file : List ℕ} {count : Option ℕ} {x : Trailer} {n : ℕ} → got ≤ length input → file ≡ take got input
-    → count ≡ Some 0 → Own plan g rhs parent k1 k2 place list way text → x ≡ trailer_in file → n ≡ cells_told x
+    → count ≡ Some 0 → Own (tables plan g rhs parent k1 k2 place list) way text → x ≡ trailer_in file → n ≡ cells_told x
     → Running input got file count
     (tables (part (4 * n) plan) (part n g) (part n rhs) (part n parent) (part n k1) (part n k2) (part n place) (part n list))
     way text
@@ -68,24 +68,24 @@ running {plan} {g} {rhs} {parent} {k1} {k2} {place} {list} {file = file} {x = x}
 
 -- ---- a file begun
 
-module _ {input : List ℕ} {got : ℕ} {file : List ℕ} {count : Option ℕ} {t : Tables} {way text : List ℕ} {r : Played} {t' : Tables} {text' : List ℕ}
-    (R : Running input got file count t way text) (B : Begins file t text r t' text') where
+module _ {input : List ℕ} {got : ℕ} {file : List ℕ} {count : Option ℕ} {t : Tables} {way text : List ℕ} {r : Played} {t' : Tables} {text' : List ℕ} {used : ℕ}
+    (R : Running input got file count t way text) (B : Begins file t text r t' text' used) where
   -- What begin leaves in the text is the first piece of the output of what was read.
-  pub first_read : Piece input got text' r.used count
+  pub first_read : Piece input got text' used count
   first_read = record {
     read = R.read;
     put = begun_used B;
     written = 0;
     counted = R.unwritten;
-    next = subst (λ f. NextPiece f 0 (take r.used text')) R.part (first_piece B);
+    next = subst (λ f. NextPiece f 0 (take used text')) R.part (first_piece B);
   }
 
   -- Once it is printed, or a write failed ..
-  module _ {left : ℕ} {count' : Option ℕ} (M : Moves left r.left 0 r.used count count') where
-    first_counted : count' ≡ option_map (λ written. written + r.used) count → count' ≡ Some (0 + r.used)
-    first_counted e = e ∙ ap (option_map (λ written. written + r.used)) R.unwritten
+  module _ {left : ℕ} {count' : Option ℕ} (M : Moves left r.left 0 used count count') where
+    first_counted : count' ≡ option_map (λ written. written + used) count → count' ≡ Some (0 + used)
+    first_counted e = e ∙ ap (option_map (λ written. written + used)) R.unwritten
 
-    rest : Unprinted file (0 + r.used) (stands r.session t') (actions_from file r.at r.left)
+    rest : Unprinted file (0 + used) (stands r.session t') (actions_from file r.at r.left)
     rest = first_printed B refl
 
     -- .. and nothing is left to play, all of the output is written;
@@ -96,13 +96,13 @@ module _ {input : List ℕ} {got : ℕ} {file : List ℕ} {count : Option ℕ} {
     pub rest_printing : (left ≡ 0 → ⊥) → Printing input got file r.session t' way r.at left text' count'
     rest_printing some = ⊎_elim (λ m. subst (λ n. Printing input got file r.session t' way r.at n text' count') (sym m.0) (goes_on m.0 m.1)) (λ f. absurd (some f.0)) M
       where
-        goes_on : left ≡ r.left → count' ≡ option_map (λ written. written + r.used) count → Printing input got file r.session t' way r.at r.left text' count'
+        goes_on : left ≡ r.left → count' ≡ option_map (λ written. written + used) count → Printing input got file r.session t' way r.at r.left text' count'
         goes_on e moved = record {
           read = R.read;
           part = R.part;
           playing = can_play;
           text_room = omega (arith, R.text_room, begun_long B, area can_play.sound.plan.size);
-          written = 0 + r.used;
+          written = 0 + used;
           counted = first_counted moved;
           unprinted = rest;
         }

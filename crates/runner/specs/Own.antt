@@ -8,15 +8,15 @@ abbrev pub most_cells : ℕ
 most_cells = 4096
 
 -- Each table has room for every plan, the way list for every way, and the text for every line.
-pub record Own (plan g rhs parent k1 k2 place list way text : List ℕ) : Type 0 where
-  pub plan_room : length plan ≡ 4 * most_cells
-  pub g_room : length g ≡ most_cells
-  pub rhs_room : length rhs ≡ most_cells
-  pub parent_room : length parent ≡ most_cells
-  pub k1_room : length k1 ≡ most_cells
-  pub k2_room : length k2 ≡ most_cells
-  pub place_room : length place ≡ most_cells
-  pub list_room : length list ≡ most_cells
+pub record Own (t : Tables) (way text : List ℕ) : Type 0 where
+  pub plan_room : length t.plan ≡ 4 * most_cells
+  pub g_room : length t.g ≡ most_cells
+  pub rhs_room : length t.rhs ≡ most_cells
+  pub parent_room : length t.parent ≡ most_cells
+  pub k1_room : length t.k1 ≡ most_cells
+  pub k2_room : length t.k2 ≡ most_cells
+  pub place_room : length t.place ≡ most_cells
+  pub list_room : length t.list ≡ most_cells
   pub way_room : length way ≡ most_cells
   pub text_room : room most_cells ≤ length text
 

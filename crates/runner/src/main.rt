@@ -2,7 +2,7 @@
 #![tactic(auto)]
 
 ghost use Rattle.std.specs.Prelude.{◌≡◌, ◌≤◌, length, take, Some};
-ghost use Rattle.tables.specs.Lent.{tables};
+ghost use Rattle.tables.specs.Lent.{lent, tables};
 ghost use Rattle.drill_file.specs.File.{trailer_in};
 ghost use Rattle.drill.specs.Output.{output};
 ghost use Rattle.printing.specs.Promises.{WrittenTo};
@@ -12,7 +12,6 @@ use drill_file;
 use drill_file::Trailer;
 use failure;
 use input;
-use input::Got;
 use opening;
 use plan::SHUT;
 use printing;
@@ -21,7 +20,8 @@ use std::env::{Env, FillError};
 use std::io::{Error, Read};
 use std::rt::Files;
 use std::{fs, str};
-use tables::INFINITE;
+use tables::{Ahead, INFINITE};
+use text::Text;
 
 // Runs a file, whose trailer is passed along, on tables of its size: prints what begin leaves in the text, then plays and prints what is left over.
 fn run<R: Print + Eprint>(
@@ -33,20 +33,15 @@ fn run<R: Print + Eprint>(
     count: &mut Option<usize>,
     plan: &mut [u8],
     g: &mut [u32],
-    rhs: &mut [u32],
-    parent: &mut [u8],
-    k1: &mut [u32],
-    k2: &mut [u32],
-    place: &mut [u16],
-    list: &mut [u16],
+    ahead: &mut Ahead,
     way: &mut [u16],
-    text: &mut [u8],
+    text: &mut Text,
 )
     requires t_value { t ≡ trailer_in file.now }
-    requires running { Running input.now got file.now count.old (tables plan.old g.old rhs.old parent.old k1.old k2.old place.old list.old) way.old text.old }
+    requires running { Running input.now got file.now count.old (lent plan.old g.old ahead.old) way.old text.old.room.now }
     ensures { WrittenTo (length (output file.now)) count.new }
 {
-    let begun = opening::begin(file, t, plan, g, rhs, parent, k1, k2, place, list, text);
+    let begun = opening::begin(file, t, plan, g, ahead, text);
     let left = printing::print(rt, input, got, text, begun, count);
     if left == 0 {
         return;
@@ -62,18 +57,14 @@ fn run<R: Print + Eprint>(
         count,
         plan,
         g,
-        rhs,
-        parent,
-        k1,
-        k2,
-        place,
-        list,
+        ahead,
         way,
         text,
     );
 }
 
 // Runs the file that was read, on the parts of the tables that its size asks for. Here its trailer is read, and nowhere else.
+// The tables come one by one, for parts of several fields of one struct cannot be lent at once.
 fn run_file<R: Print + Eprint>(
     rt: &R,
     input: &[u8],
@@ -88,17 +79,25 @@ fn run_file<R: Print + Eprint>(
     place: &mut [u16],
     list: &mut [u16],
     way: &mut [u16],
-    text: &mut [u8],
+    text: &mut Text,
 )
     requires got_in_bounds { got ≤ length input.now }
     requires unwritten { count.old ≡ Some 0 }
-    requires own { Own plan.old g.old rhs.old parent.old k1.old k2.old place.old list.old way.old text.old }
+    requires own { Own (tables plan.old g.old rhs.old parent.old k1.old k2.old place.old list.old) way.old text.old.room.now }
     ensures { WrittenTo (length (output (take got input.now))) count.new }
 {
     let file = printing::file_in(input, got);
     let t = drill_file::trailer_in(file);
     let n = drill_file::cells_told(t);
     let m = 4 * n;
+    let mut ahead = Ahead {
+        rhs: &mut rhs[0..n],
+        parent: &mut parent[0..n],
+        k1: &mut k1[0..n],
+        k2: &mut k2[0..n],
+        place: &mut place[0..n],
+        list: &mut list[0..n],
+    };
     run(
         rt,
         input,
@@ -108,12 +107,7 @@ fn run_file<R: Print + Eprint>(
         count,
         &mut plan[0..m],
         &mut g[0..n],
-        &mut rhs[0..n],
-        &mut parent[0..n],
-        &mut k1[0..n],
-        &mut k2[0..n],
-        &mut place[0..n],
-        &mut list[0..n],
+        &mut ahead,
         way,
         text,
     );
@@ -123,8 +117,8 @@ fn run_file<R: Print + Eprint>(
 fn run_input<R: Print + Eprint, I: Read>(rt: &R, reader: &mut I, name: &str) {
     let mut input = [0u8; 65537];
     let got = match input::read_whole(reader, &mut input) {
-        Got::Bytes(got) => got,
-        Got::Failed(why) => {
+        Ok(got) => got,
+        Err(why) => {
             failure::tell(rt, name, why);
             return;
         }
@@ -139,7 +133,11 @@ fn run_input<R: Print + Eprint, I: Read>(rt: &R, reader: &mut I, name: &str) {
     let mut place = [ABSENT; 4096];
     let mut list = [ABSENT; 4096];
     let mut way = [ABSENT; 4096];
-    let mut text = [0u8; 65536];
+    let mut room = [0u8; 65536];
+    let mut text = Text {
+        room: &mut room,
+        used: 0,
+    };
     run_file(
         rt,
         &input,

@@ -19,11 +19,11 @@ pub loop-reader-preserved : goal.loop-reader-preserved
 loop-reader-preserved c =
     let i = c.loop-reader.invariant in
     let read : c.next.result ≡ action_at c.args.r.file.now c.loop-reader.reader.at = c.next.ensures ∙ ap (λ (f : Bor (List ℕ)). action_at f.now c.loop-reader.reader.at) i.1 in
-    let turns = rw read at c.play_action-turned.ensures in
+    let turns = rw read at c.play_action-session.ensures in
     (rw c.moved-reader.ensures.1 (going_more i.0 (c.goes_on.ensures.so c.loop-reader-test.true).0 turns), c.moved-reader.ensures.0 ∙ i.1)
 
 pub returns : goal.returns
 returns c =
     let G = c.loop-reader.invariant.0 in
-    let over : (c.loop-reader.left ≡ 0) ⊎ (length c.loop-reader.text < c.loop-reader.turned.used + room (cells c.loop-reader.turned.session)) = room_over _ _ _ _ (refuted c.goes_on.ensures c.loop-reader-test.false) in
-    going_stops G (rw (c.loop-reader.auto.text, going_cells G) at over)
+    let over : (c.loop-reader.left ≡ 0) ⊎ (length c.loop-reader.text.room.now < c.loop-reader.text.used + room (cells c.loop-reader.session)) = room_over _ _ _ _ (refuted c.goes_on.ensures c.loop-reader-test.false) in
+    going_stops G (rw (G.lines.long, going_cells G) at over)

@@ -22,5 +22,5 @@ loop-left-preserved g c =
 
 pub returns : goal.returns
 returns g c =
-    subst (λ f. WrittenTo (length (output f.now)) c.loop-left.count) (c.loop-left.invariant.0 ∙ c.reading-r.ensures.0)
+    subst (λ f. WrittenTo (length (output f.now)) c.loop-left.count) (c.loop-left.invariant.0 ∙ c.new-r.ensures.0)
     (all_done c.loop-left.invariant.1 (omega (arith, c.loop-left-test.false)))

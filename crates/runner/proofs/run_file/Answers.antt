@@ -12,3 +12,6 @@ slice_bounds-run-end g c = omega (arith, parts_room _ c.cells_told-n.ensures, c.
 pub run-requires-clause-running : goal.run-requires-clause-running
 run-requires-clause-running g c =
     running c.requires.got_in_bounds c.file_in-file.ensures c.requires.unwritten c.requires.own c.trailer_in-t.ensures c.cells_told-n.ensures
+
+pub slice_bounds-ahead-end : goal.slice_bounds-ahead-end
+slice_bounds-ahead-end g c = omega (arith, parts_room _ c.cells_told-n.ensures, c.requires.own.rhs_room)
