@@ -4,28 +4,20 @@
 use answer::Answer;
 use change;
 use plan::SHUT;
+use refusal::Refusal;
 use search;
 use session;
 use std::io;
-use tables::Session;
-
-// Prints a word and a number.
-fn say_number(rt: &impl Print, word: &str, n: u64) -> io::Result<()> {
-    print!(rt; "{word}{n}")
-}
+use tables::{Ahead, Session};
 
 // Prints an answer on a line.
-fn say(rt: &impl Print, answer: Answer) -> io::Result<()> {
+fn say(rt: &impl Print, answer: Result<Answer, Refusal>) -> io::Result<()> {
     match answer {
-        Answer::Caught(cell) => say_number(rt, "caught at ", cell as u64)?,
-        Answer::NoWay(steps) => say_number(rt, "none steps ", steps as u64)?,
-        Answer::Way(cost, steps, _) => {
-            say_number(rt, "way ", cost as u64)?;
-            say_number(rt, " steps ", steps as u64)?;
-        }
-        Answer::Refused(number) => say_number(rt, "refused ", number as u64)?,
+        Ok(Answer::Caught(cell)) => println!(rt; "caught at {cell}"),
+        Ok(Answer::NoWay(steps)) => println!(rt; "none steps {steps}"),
+        Ok(Answer::Way { cost, steps, .. }) => println!(rt; "way {cost} steps {steps}"),
+        Err(refusal) => println!(rt; "{refusal}"),
     }
-    println!(rt; "")
 }
 
 // Searches, prints the answer, and returns the record for the next call.
@@ -34,17 +26,11 @@ fn seek(
     s: Session,
     plan: &[u8],
     g: &mut [u32],
-    rhs: &mut [u32],
-    parent: &mut [u8],
-    k1: &mut [u32],
-    k2: &mut [u32],
-    place: &mut [u16],
-    list: &mut [u16],
+    ahead: &mut Ahead,
     way: &mut [u16],
 ) -> io::Result<Session> {
-    let found = search::search(s, plan, g, rhs, parent, k1, k2, place, list, way);
-    let answer = found.answer;
-    say(rt, answer)?;
+    let found = search::search(s, plan, g, ahead, way);
+    say(rt, found.answer)?;
     Ok(found.session)
 }
 
@@ -60,59 +46,17 @@ fn main(rt: HostRuntime) -> io::Result<()> {
     let mut place = [0u16; 3];
     let mut list = [0u16; 3];
     let mut way = [0u16; 3];
-    let opened = session::open(
-        3,
-        1,
-        0,
-        2,
-        &plan,
-        &mut g,
-        &mut rhs,
-        &mut parent,
-        &mut k1,
-        &mut k2,
-        &mut place,
-        &mut list,
-    );
-    let first = seek(
-        &rt,
-        opened.session,
-        &plan,
-        &mut g,
-        &mut rhs,
-        &mut parent,
-        &mut k1,
-        &mut k2,
-        &mut place,
-        &mut list,
-        &mut way,
-    )?;
-    let shut = change::change_move(
-        first,
-        &mut plan,
-        &g,
-        &mut rhs,
-        &mut parent,
-        &mut k1,
-        &mut k2,
-        &mut place,
-        &mut list,
-        1,
-        1,
-        SHUT,
-    );
-    seek(
-        &rt,
-        shut.session,
-        &plan,
-        &mut g,
-        &mut rhs,
-        &mut parent,
-        &mut k1,
-        &mut k2,
-        &mut place,
-        &mut list,
-        &mut way,
-    )?;
+    let mut ahead = Ahead {
+        rhs: &mut rhs,
+        parent: &mut parent,
+        k1: &mut k1,
+        k2: &mut k2,
+        place: &mut place,
+        list: &mut list,
+    };
+    let opened = session::open(3, 1, 0, 2, &plan, &mut g, &mut ahead);
+    let first = seek(&rt, opened.session, &plan, &mut g, &mut ahead, &mut way)?;
+    let shut = change::change_move(first, &mut plan, &g, &mut ahead, 1, 1, SHUT);
+    seek(&rt, shut.session, &plan, &mut g, &mut ahead, &mut way)?;
     Ok(())
 }

@@ -14,8 +14,8 @@ use Rattle.tables.specs.declared.Session.{Session}
 use Rattle.tables.specs.Lent.{Tables, cells, graph}
 use Rattle.tables.specs.Sound.{Sound}
 use Rattle.tables.specs.Told.{none_leads as none, refusal, Told, told_refusal}
-use Rattle.session.specs.declared.Answer.{Answer as CallAnswer}
-use Rattle.session.specs.declared.Answer.TheVariants.{Done, Refused}
+use Rattle.std.specs.Prelude.{Result, Ok, Err}
+use Rattle.refusal.specs.declared.Refusal.{Refusal}
 use Rattle.session.specs.declared.Reply.{Reply as CallReply}
 use Rattle.session.specs.Refusals.{told_by as told_by_call, PlaceRules, OpenRules}
 use Rattle.session.specs.Promises.{nothing, Places, Opens, Alike}
@@ -24,26 +24,27 @@ use Rattle.change.specs.Refusals.{ChangeRules}
 use Rattle.change.specs.Promise.{Changes}
 use Rattle.change.proofs.Theorems.{one_change}
 use Rattle.answer.specs.declared.Answer.{Answer}
-use Rattle.answer.specs.declared.Answer.TheVariants.{Caught, NoWay, Way, Refused as RefusedSearch}
+use Rattle.answer.specs.declared.Answer.TheVariants.{Caught, NoWay, Way}
 use Rattle.answer.specs.Answer.{told_by}
 use Rattle.search.specs.declared.Outcome.{Outcome}
 use Rattle.search.specs.Promise.{SearchRules, Searches}
 use Rattle.demands.specs.Demands.{Exactly, steps_of, RightlyAnswered, caught, none_leads, way_shown, TakesTheSteps, FewSteps}
 use Rattle.demands.proofs.Demands.{demand_1, demand_1_exactly, demand_2, demand_3, one_search}
 use Rattle.rongdhesi.specs.declared.Reply.{Reply}
-use Rattle.drill_writer.specs.declared.Written.{Written as DrillWritten}
 use Rattle.drill_writer.specs.Promise.{written_told, WriteRules, Writes}
 use Rattle.drill_writer.proofs.Theorems.{one_writing, write_exactly}
 use Rattle.drill_writer.proofs.Theorems as writer
+use Rattle.drill_writer.proofs.WriteLaws.{refused_told}
 use Rattle.rongdhesi.specs.declared.Lengths.{Lengths}
 use Rattle.rongdhesi.specs.declared.Written.{Written}
 use Rattle.rongdhesi.specs.Told.{kind_of, reply_of, written_of, CallTold, SearchTold, Measures, WritingTold}
-use Rattle.reach.specs.Promise.{ReachRules, Reports}
+use Rattle.reach.specs.declared.Counts.{Counts}
+use Rattle.reach.specs.Promise.{reach_told, ReachRules, Reports}
 use Rattle.reach.proofs.Theorems.{reach_refused, reach_number, one_reach}
-use Rattle.along.specs.Along.{AlongRules, Costed}
+use Rattle.along.specs.Along.{running_told, AlongRules, Costed}
 use Rattle.along.proofs.Theorems.{along_refused, along_number, one_along}
-use Rattle.through.specs.Through.{ThroughRules, Passes}
-use Rattle.through.proofs.Theorems.{through_refused, through_number, one_through}
+use Rattle.through.specs.Through.{ThroughRules, ThroughTold, Passes}
+use Rattle.through.proofs.Theorems.{through_refused_told, through_number, one_through}
 use Rattle.rongdhesi.specs.declared.Reached.{Reached}
 use Rattle.rongdhesi.specs.declared.Running.{Running}
 use Rattle.rongdhesi.specs.declared.Through.{Through}
@@ -89,15 +90,15 @@ search_refused way {way'} {k} P rules n =
 abbrev Numbered : Told → Type 0
 Numbered x = ((x.name ≢ refusal) × (x.number ≡ 0)) ⊎ (x ≡ told_refusal x.number)
 
-call_number : (a : CallAnswer) → Numbered (told_by_call a)
-call_number Done = inl (λ e. differ cc, refl)
-call_number (Refused n) = inr refl
+call_number : (a : Result Unit Refusal) → Numbered (told_by_call a)
+call_number (Ok _) = inl (λ e. differ cc, refl)
+call_number (Err r) = inr refl
 
-search_number : (a : Answer) (list : List ℕ) → Numbered (told_by a list)
-search_number (Caught x) list = inl (λ e. differ cc, refl)
-search_number (NoWay n) list = inl (λ e. differ cc, refl)
-search_number (Way c n k) list = inl (λ e. differ cc, refl)
-search_number (RefusedSearch n) list = inr refl
+search_number : (a : Result Answer Refusal) (list : List ℕ) → Numbered (told_by a list)
+search_number (Ok (Caught x)) list = inl (λ e. differ cc, refl)
+search_number (Ok (NoWay n)) list = inl (λ e. differ cc, refl)
+search_number (Ok (Way c n k)) list = inl (λ e. differ cc, refl)
+search_number (Err r) list = inr refl
 
 told_exactly : {Rules : ℕ → Type 0} {r : Reply} (s : Session) (x : Told) → r ≡ reply_of s x → Exactly Rules x → Numbered x → ToldExactly Rules r
 told_exactly {Rules} s x e E p k = subst (λ (y : Reply). (y.refusal ≡ k) ↔ Rules k) (sym e) (by p)
@@ -219,7 +220,7 @@ module _ {width height hunter target : ℕ} {plan actions file file' : List ℕ}
   pub write_refused : {k : ℕ} → WriteRules width height hunter target plan actions (length file) k → k ≢ 0 → (r ≡ written_of (record { refusal = k; bytes = 0 })) × (file' ≡ file)
   write_refused rules n =
       let d = writer.write_refused P.promised rules n in
-      (P.told ∙ ap (λ (x : DrillWritten). written_of (written_told x)) d.0, d.1)
+      (P.told ∙ ap written_of (refused_told P.called d.0 n), d.1)
 
   -- the number told is k exactly if k is the number of the first rule broken, and 0 exactly if none is.
   pub write_told_exactly : (k : ℕ) → (r.refusal ≡ k) ↔ WriteRules width height hunter target plan actions (length file) k
@@ -230,7 +231,7 @@ pub one_writing_told : {width height hunter target : ℕ} {plan actions file a b
     → WritingTold (λ x. Writes width height hunter target plan actions file x b) s → (r ≡ s) × (a ≡ b)
 one_writing_told P Q =
     let one = one_writing P.promised Q.promised in
-    (P.told ∙ ap (λ (x : DrillWritten). written_of (written_told x)) one.0 ∙ sym Q.told, one.1)
+    (P.told ∙ ap (λ (x : Result ℕ Refusal). written_of (written_told x)) one.0 ∙ sym Q.told, one.1)
 
 -- ---- what is asked of a plan alone
 
@@ -241,9 +242,10 @@ same_given {tell = tell} a b e = a.told ∙ ap tell e ∙ sym b.told
 module _ {width height hunter : ℕ} {plan rows moves rows' moves' : List ℕ} {r : Reached} (P : Gives reached_of (λ x. Reports width height hunter plan rows moves x rows' moves') r) where
   -- Where k is the number of the first rule broken, the reply carries k and nothing else, and nothing has changed;
   pub reached_refused : {k : ℕ} → ReachRules width height hunter plan rows moves k → k ≢ 0 → (r ≡ record { refusal = k; cells = 0; moves = 0 }) × (rows' ≡ rows) × (moves' ≡ moves)
-  reached_refused rules n =
+  reached_refused {k = k} rules n =
       let d = reach_refused P.promised rules n in
-      (P.told ∙ ap reached_of d.0, d.1, d.2)
+      let is : (reach_told P.called).refusal ≡ k = (reach_number P.promised k).1 rules in
+      (P.told ∙ ap reached_of d.0 ∙ ap (λ (x : ℕ). record { refusal = x; cells = 0; moves = 0 }) (sym (ap (λ (x : Result Counts Refusal). (reach_told x).refusal) d.0) ∙ is), d.1, d.2)
 
   -- the number told is k exactly if k is the number of the first rule broken, and 0 exactly if none is.
   pub reached_told_exactly : (k : ℕ) → (r.refusal ≡ k) ↔ ReachRules width height hunter plan rows moves k
@@ -252,9 +254,10 @@ module _ {width height hunter : ℕ} {plan rows moves rows' moves' : List ℕ} {
 module _ {width height : ℕ} {plan cells costs costs' : List ℕ} {r : Running} (P : Gives running_of (λ x. Costed width height plan cells costs x costs') r) where
   -- The same of the running costs ..
   pub running_refused : {k : ℕ} → AlongRules width height plan cells (length costs) k → k ≢ 0 → (r ≡ record { refusal = k; costs = 0 }) × (costs' ≡ costs)
-  running_refused rules n =
+  running_refused {k = k} rules n =
       let d = along_refused P.promised rules n in
-      (P.told ∙ ap running_of d.0, d.1)
+      let is : (running_told P.called).refusal ≡ k = (along_number P.promised k).1 rules in
+      (P.told ∙ ap running_of d.0 ∙ ap (λ (x : ℕ). record { refusal = x; costs = 0 }) (sym (ap (λ (x : Result ℕ Refusal). (running_told x).refusal) d.0) ∙ is), d.1)
 
   pub running_told_exactly : (k : ℕ) → (r.refusal ≡ k) ↔ AlongRules width height plan cells (length costs) k
   running_told_exactly k = subst (λ (y : Running). (y.refusal ≡ k) ↔ AlongRules width height plan cells (length costs) k) (sym P.told) (along_number P.promised k)
@@ -262,7 +265,8 @@ module _ {width height : ℕ} {plan cells costs costs' : List ℕ} {r : Running}
 module _ {width height hunter target : ℕ} {plan : List ℕ} {cell direction : ℕ} {r : Through} (P : Gives through_of (Passes width height hunter target plan cell direction) r) where
   -- .. and of the least cost through a move, for which nothing is lent to write.
   pub through_told_refused : {k : ℕ} → ThroughRules width height hunter target plan cell direction k → k ≢ 0 → r ≡ record { refusal = k; walk = 0; cost = 0 }
-  through_told_refused rules n = P.told ∙ ap through_of (through_refused P.promised rules n)
+  through_told_refused rules n =
+      P.told ∙ ap (λ (x : ThroughTold). record { refusal = x.refusal; walk = x.walk; cost = x.cost }) (through_refused_told P.promised rules n)
 
   pub through_told_exactly : (k : ℕ) → (r.refusal ≡ k) ↔ ThroughRules width height hunter target plan cell direction k
   through_told_exactly k = subst (λ (y : Through). (y.refusal ≡ k) ↔ ThroughRules width height hunter target plan cell direction k) (sym P.told) (through_number P.promised k)

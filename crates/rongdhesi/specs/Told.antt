@@ -1,5 +1,5 @@
 -- An answer told in numbers, and the promises of the C functions: each is the library's own, of a reply told so.
-use Rattle.std.specs.Prelude.{◌≡◌, cond, ◌≢◌, List, ℕ, ◌*◌, ltb}
+use Rattle.std.specs.Prelude.{◌≡◌, cond, ◌≢◌, List, ℕ, ◌*◌, ltb, Result}
 use Rattle.decide.specs.Ruled.{Ruled, Passed}
 use Rattle.plan.specs.Cells.{Size}
 use Rattle.tables.specs.declared.Session.{Session}
@@ -9,7 +9,7 @@ use Rattle.session.specs.Refusals.{told_by as told_by_call}
 use Rattle.answer.specs.Answer.{told_by}
 use Rattle.search.specs.declared.Outcome.{Outcome}
 use Rattle.rongdhesi.specs.declared.Reply.{Reply}
-use Rattle.drill_writer.specs.declared.Written.{Written as DrillWritten}
+use Rattle.refusal.specs.declared.Refusal.{Refusal}
 use Rattle.drill_writer.specs.Promise.{WriteTold, written_told}
 use Rattle.rongdhesi.specs.declared.Lengths.{Lengths}
 use Rattle.rongdhesi.specs.declared.Written.{Written}
@@ -53,8 +53,8 @@ pub record SearchTold (Promised : Outcome → Type 0) (r : Reply) : Type 0 where
   pub promised : Promised called
   pub told : OutcomeTold called r
 
-pub record WritingTold (Promised : DrillWritten → Type 0) (r : Written) : Type 0 where
-  pub called : DrillWritten
+pub record WritingTold (Promised : Result ℕ Refusal → Type 0) (r : Written) : Type 0 where
+  pub called : Result ℕ Refusal
   pub promised : Promised called
   pub told : r ≡ written_of (written_told called)
 

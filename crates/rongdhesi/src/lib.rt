@@ -3,8 +3,9 @@
 #![tactic(auto)]
 
 ghost use Rattle.std.specs.Prelude.{◌≡◌};
+ghost use Rattle.refusal.specs.Numbers.{number_of};
 ghost use Rattle.tables.specs.Lent.{tables};
-ghost use Rattle.tables.specs.Told.{told_refusal};
+ghost use Rattle.tables.specs.Told.{told_done, told_refusal};
 ghost use Rattle.session.specs.Refusals.{told_by as told_by_call};
 ghost use Rattle.session.specs.Promises.{hunter_at, target_at, Places, Opens};
 ghost use Rattle.change.specs.Promise.{Changes};
@@ -17,27 +18,28 @@ ghost use Rattle.rongdhesi.specs.Told.{reply_of, OutcomeTold, byte_of, written_o
 ghost use Rattle.rongdhesi.specs.Reasons.{reached_of, running_of, through_of, Gives};
 
 use along;
-use answer;
+use answer::Answer;
 use change;
 use drill_writer;
 use plan;
 use reach;
+use reach::Counts;
+use refusal::Refusal;
 use search;
 use search::Outcome;
 use session;
-use tables::Session;
+use tables::{Ahead, Session};
 use through;
 
-// The kinds of answer.
-const DONE: usize = 0;
-
-const WAY: usize = 1;
-
-const NO_WAY: usize = 2;
-
-const CAUGHT: usize = 3;
-
-const REFUSED: usize = 4;
+// The kinds of answer, numbered from 0.
+#[derive(Clone, Copy)]
+enum Kind {
+    Done,
+    Way,
+    NoWay,
+    Caught,
+    Refused,
+}
 
 // What a call returns: the record as it leaves it, and the answer's five numbers. What an answer lacks is 0.
 #[repr(C)]
@@ -94,86 +96,72 @@ pub struct Through {
     pub cost: usize,
 }
 
-// A refusal in numbers: it "carries its number only".
-fn refused(session: Session, number: u8) -> Reply
-    ensures { result ≡ reply_of session (told_refusal number) }
+// Document 01's number of a refusal, as it crosses.
+fn number(refusal: Refusal) -> usize
+    ensures { result ≡ number_of refusal }
+{
+    usize::from(u8::from(refusal))
+}
+
+// A call that is done, in numbers: there is nothing more to tell.
+fn done(session: Session) -> Reply
+    ensures { result ≡ reply_of session told_done }
 {
     Reply {
         session,
-        kind: REFUSED,
-        refusal: number as usize,
+        kind: Kind::Done as usize,
+        refusal: 0,
         cost: 0,
         steps: 0,
         cells: 0,
     }
 }
 
-// A way's cost as a number that crosses.
-fn cost_of(cost: u32) -> usize
-    ensures { result ≡ cost }
+// A refusal in numbers: it "carries its number only".
+fn refused(session: Session, refusal: Refusal) -> Reply
+    ensures { result ≡ reply_of session (told_refusal (number_of refusal)) }
 {
-    cost as usize
+    Reply {
+        kind: Kind::Refused as usize,
+        refusal: number(refusal),
+        ..done(session)
+    }
 }
 
 // The answer of open, place or change in numbers.
 fn told(called: session::Reply) -> Reply
     ensures { result ≡ reply_of called.session (told_by_call called.answer) }
 {
-    let session = called.session;
-    let answer = called.answer;
-    let session::Answer::Refused(number) = answer else {
-        return Reply {
-            session,
-            kind: DONE,
-            refusal: 0,
-            cost: 0,
-            steps: 0,
-            cells: 0,
-        };
-    };
-    refused(session, number)
+    match called.answer {
+        Ok(()) => done(called.session),
+        Err(refusal) => refused(called.session, refusal),
+    }
 }
 
 // The answer of a search in numbers.
 fn search_told(called: Outcome) -> Reply
     ensures { OutcomeTold called result }
 {
-    let session = called.session;
-    let answer = called.answer;
-    match answer {
-        answer::Answer::Caught(_) => {
-            return Reply {
-                session,
-                kind: CAUGHT,
-                refusal: 0,
-                cost: 0,
-                steps: 0,
-                cells: 1,
-            };
-        }
-        answer::Answer::NoWay(steps) => {
-            return Reply {
-                session,
-                kind: NO_WAY,
-                refusal: 0,
-                cost: 0,
-                steps,
-                cells: 0,
-            };
-        }
-        answer::Answer::Way(cost, steps, cells) => {
-            return Reply {
-                session,
-                kind: WAY,
-                refusal: 0,
-                cost: cost_of(cost),
-                steps,
-                cells,
-            };
-        }
-        answer::Answer::Refused(number) => {
-            return refused(session, number);
-        }
+    let nothing = done(called.session);
+    match called.answer {
+        Ok(Answer::Caught(_)) => Reply {
+            kind: Kind::Caught as usize,
+            cells: 1,
+            ..nothing
+        },
+        Ok(Answer::NoWay(steps)) => Reply {
+            kind: Kind::NoWay as usize,
+            steps,
+            ..nothing
+        },
+        Ok(Answer::Way { cost, steps, cells }) => Reply {
+            kind: Kind::Way as usize,
+            cost: cost as usize,
+            steps,
+            cells,
+            ..nothing
+        },
+        Err(refusal) => refused(called.session, refusal),
     }
 }
 
@@ -225,10 +213,15 @@ pub extern "C" fn rongdhesi_open(
 ) -> Reply
     ensures { CallTold (λ x. Opens width height hunter target (tables plan.now g.old rhs.old parent.old k1.old k2.old place.old list.old) x (tables plan.now g.new rhs.new parent.new k1.new k2.new place.new list.new)) result }
 {
-    let called = session::open(
-        width, height, hunter, target, plan, g, rhs, parent, k1, k2, place, list,
-    );
-    told(called)
+    let mut ahead = Ahead {
+        rhs,
+        parent,
+        k1,
+        k2,
+        place,
+        list,
+    };
+    told(session::open(width, height, hunter, target, plan, g, &mut ahead))
 }
 
 // Places the hunter. The next search takes it over.
@@ -236,8 +229,7 @@ pub extern "C" fn rongdhesi_open(
 pub extern "C" fn rongdhesi_place_hunter(s: Session, cell: usize) -> Reply
     ensures { CallTold (Places s (hunter_at s cell) cell) result }
 {
-    let called = session::place_hunter(s, cell);
-    told(called)
+    told(session::place_hunter(s, cell))
 }
 
 // Places the target. The next search takes it over.
@@ -245,8 +237,7 @@ pub extern "C" fn rongdhesi_place_hunter(s: Session, cell: usize) -> Reply
 pub extern "C" fn rongdhesi_place_target(s: Session, cell: usize) -> Reply
     ensures { CallTold (Places s (target_at s cell) cell) result }
 {
-    let called = session::place_target(s, cell);
-    told(called)
+    told(session::place_target(s, cell))
 }
 
 // Changes a move: gives cell u's move in direction d a cost, and works that in.
@@ -267,9 +258,15 @@ pub extern "C" fn rongdhesi_change_move(
 ) -> Reply
     ensures { CallTold (λ x. Changes s (tables plan.old g.now rhs.old parent.old k1.old k2.old place.old list.old) u d (byte_of cost) x (tables plan.new g.now rhs.new parent.new k1.new k2.new place.new list.new)) result }
 {
-    let byte = byte_of(cost);
-    let called = change::change_move(s, plan, g, rhs, parent, k1, k2, place, list, u, d, byte);
-    told(called)
+    let mut ahead = Ahead {
+        rhs,
+        parent,
+        k1,
+        k2,
+        place,
+        list,
+    };
+    told(change::change_move(s, plan, g, &mut ahead, u, d, byte_of(cost)))
 }
 
 // Searches a cheapest way and writes its cells into the way list, hunter first.
@@ -288,18 +285,25 @@ pub extern "C" fn rongdhesi_search(
 ) -> Reply
     ensures { SearchTold (λ x. Searches s (tables plan.now g.old rhs.old parent.old k1.old k2.old place.old list.old) way.old x (tables plan.now g.new rhs.new parent.new k1.new k2.new place.new list.new) way.new) result }
 {
-    let called = search::search(s, plan, g, rhs, parent, k1, k2, place, list, way);
-    search_told(called)
+    let mut ahead = Ahead {
+        rhs,
+        parent,
+        k1,
+        k2,
+        place,
+        list,
+    };
+    search_told(search::search(s, plan, g, &mut ahead, way))
 }
 
 // The answer of writing a drill file in numbers.
-fn written_told(called: drill_writer::Written) -> Written
+fn written_told(called: Result<usize, Refusal>) -> Written
     ensures { result ≡ written_of (written_told called) }
 {
     match called {
-        drill_writer::Written::Bytes(bytes) => Written { refusal: 0, bytes },
-        drill_writer::Written::Refused(refusal) => Written {
-            refusal: refusal as usize,
+        Ok(bytes) => Written { refusal: 0, bytes },
+        Err(refusal) => Written {
+            refusal: number(refusal),
             bytes: 0,
         },
     }
@@ -318,22 +322,21 @@ pub extern "C" fn rongdhesi_write_drill(
 ) -> Written
     ensures { WritingTold (λ x. Writes width height hunter target plan.now actions.now file.old x file.new) result }
 {
-    let called = drill_writer::write(width, height, hunter, target, plan, actions, file);
-    written_told(called)
+    written_told(drill_writer::write(width, height, hunter, target, plan, actions, file))
 }
 
 // The answers about a plan in numbers: what the hunter reaches ..
-fn reached_told(called: reach::Reaching) -> Reached
+fn reached_told(called: Result<Counts, Refusal>) -> Reached
     ensures { result ≡ reached_of called }
 {
     match called {
-        reach::Reaching::Reaches(cells, moves) => Reached {
+        Ok(found) => Reached {
             refusal: 0,
-            cells,
-            moves,
+            cells: found.cells,
+            moves: found.moves,
         },
-        reach::Reaching::Refused(refusal) => Reached {
-            refusal: refusal as usize,
+        Err(refusal) => Reached {
+            refusal: number(refusal),
             cells: 0,
             moves: 0,
         },
@@ -341,37 +344,37 @@ fn reached_told(called: reach::Reaching) -> Reached
 }
 
 // .. the running costs ..
-fn running_told(called: along::Running) -> Running
+fn running_told(called: Result<usize, Refusal>) -> Running
     ensures { result ≡ running_of called }
 {
     match called {
-        along::Running::Costs(costs) => Running { refusal: 0, costs },
-        along::Running::Refused(refusal) => Running {
-            refusal: refusal as usize,
+        Ok(costs) => Running { refusal: 0, costs },
+        Err(refusal) => Running {
+            refusal: number(refusal),
             costs: 0,
         },
     }
 }
 
 // .. and the least cost through a move.
-fn through_told(called: through::Passing) -> Through
+fn through_told(called: Result<Option<u32>, Refusal>) -> Through
     ensures { result ≡ through_of called }
 {
+    let nothing = Through {
+        refusal: 0,
+        walk: 0,
+        cost: 0,
+    };
     match called {
-        through::Passing::Cost(cost) => Through {
-            refusal: 0,
+        Ok(Some(cost)) => Through {
             walk: 1,
             cost: cost as usize,
+            ..nothing
         },
-        through::Passing::NoWalk => Through {
-            refusal: 0,
-            walk: 0,
-            cost: 0,
-        },
-        through::Passing::Refused(refusal) => Through {
-            refusal: refusal as usize,
-            walk: 0,
-            cost: 0,
+        Ok(None) => nothing,
+        Err(refusal) => Through {
+            refusal: number(refusal),
+            ..nothing
         },
     }
 }
@@ -388,8 +391,7 @@ pub extern "C" fn rongdhesi_explain_reached(
 ) -> Reached
     ensures { Gives reached_of (λ x. Reports width height hunter plan.now rows.old moves.old x rows.new moves.new) result }
 {
-    let called = reach::reached(width, height, hunter, plan, rows, moves);
-    reached_told(called)
+    reached_told(reach::reached(width, height, hunter, plan, rows, moves))
 }
 
 // Writes the running cost at each listed cell.
@@ -403,8 +405,7 @@ pub extern "C" fn rongdhesi_explain_along(
 ) -> Running
     ensures { Gives running_of (λ x. Costed width height plan.now cells.now costs.old x costs.new) result }
 {
-    let called = along::along(width, height, plan, cells, costs);
-    running_told(called)
+    running_told(along::along(width, height, plan, cells, costs))
 }
 
 // The least cost of any walk from hunter to target through the move from a cell in a direction.
@@ -420,6 +421,5 @@ pub extern "C" fn rongdhesi_explain_through(
 ) -> Through
     ensures { Gives through_of (Passes width height hunter target plan.now cell direction) result }
 {
-    let called = through::through(width, height, hunter, target, plan, cell, direction);
-    through_told(called)
+    through_told(through::through(width, height, hunter, target, plan, cell, direction))
 }
