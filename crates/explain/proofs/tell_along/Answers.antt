@@ -2,5 +2,5 @@
 use Rattle.explain.proofs.ExplainLaws.{costed_within}
 use Rattle.explain.proofs.tell_along.Goals as goal
 
-pub print_costs-requires : goal.print_costs-requires
-print_costs-requires g c = costed_within c.along-answer.ensures c.in-Costs.is
+pub slice_bounds-print_costs-end : goal.slice_bounds-print_costs-end
+slice_bounds-print_costs-end g c = (costed_within c.along.ensures c.in-Ok.is).1
