@@ -1,6 +1,5 @@
 -- A file refused or opened: the number that is found, and what a fresh start on its plan leaves.
 use mathlib.Core.Path.{◌≡◌, refl, sym, ap, subst, ◌∙◌}
-use mathlib.Core.Logic.{◌≢◌}
 use mathlib.Core.List.{List}
 use Prim.Native.Nat.{ℕ, ◌*◌, ◌≤◌}
 use native.Mathlib.Omega.{arith}
@@ -25,7 +24,7 @@ use Rattle.drill.specs.declared.Played.{Played}
 use Rattle.drill_file.specs.Numbers.{open_number, plan_in, file_number}
 use Rattle.drill_file.proofs.NumberLaws.{form_refused, formed, file_number_is, cells_formed}
 use Rattle.drill.specs.Output.{frame_in, begun}
-use Rattle.drill.specs.Promises.{Refuses, Starts, Begins}
+use Rattle.drill.specs.Promises.{Starts, Begins}
 use Rattle.drill.proofs.NumberLaws.{open_number_is, number_opens}
 
 -- ---- a file of wrong form
