@@ -3,7 +3,7 @@ use mathlib.Core.Path.{◌≡◌, refl, sym, ap, subst, ◌∙◌}
 use mathlib.Core.Logic.{◌⊎◌, inl, inr, ◌≢◌}
 use mathlib.Core.List.{List}
 use Prim.{Unit, tt}
-use Prim.Native.Nat.{ℕ, ◌+◌, ◌*◌, ◌≤◌, ◌<◌}
+use Prim.Native.Nat.{ℕ, ◌+◌, ◌≤◌, ◌<◌}
 use native.Mathlib.Omega.{arith}
 use native.Mathlib.Decide.{ℕ_discrete, dec_lt}
 use lib.ListN.{get_or}
@@ -12,12 +12,11 @@ use Rattle.method.specs.Graph.{Hunt}
 use Rattle.method.specs.Tables as method
 use Rattle.method.specs.Session.{move_changed}
 use Rattle.decide.proofs.ChooseLaws.{choose_is, choose_yes, choose_no}
-use Rattle.plan.specs.Directions.{row_step, column_step}
 use Rattle.plan.specs.Costs.{shut, IsByte, IsCost, with_byte, Obeys}
 use Rattle.plan.specs.Reached.{At}
 use Rattle.plan.specs.declared.Spot.{Spot}
 use Rattle.plan.proofs.CellLaws.{enters}
-use Rattle.plan.proofs.MoveLaws.{area, sum_long, cost_of}
+use Rattle.plan.proofs.MoveLaws.{cost_of}
 use Rattle.plan.proofs.ChangeLaws.{changed_obeys}
 use Rattle.tables.specs.declared.Session.{Session}
 use Rattle.tables.specs.declared.Ahead.{Ahead}
@@ -83,11 +82,6 @@ Settled s t u d cost v (Some x) = (x.cell ≡ v) × ((x.found.rhs ≡ infinite) 
 
 module _ {s : Session} {t : Tables} {u d cost : ℕ} (W : Workable s t u d cost) where
   -- ---- before the change
-
-  pub entering_sum : (d < 4) × ((s.width ≤ 64) × (u < 4096) × (s.width + 1 ≤ u + row_step d * s.width + column_step d))
-  entering_sum =
-      let O = W.sound.plan in
-      (W.direction, (O.size.narrow, omega (arith, W.cell_in, area O.size), sum_long (floor s t.plan) O u d W.cell_in W.direction W.stays_in))
 
   pub entered_in : {v : ℕ} → v ≡ entered_cell s u d → v < cells s
   entered_in e = omega (arith, e, (enters W.sound.plan.size.wide W.stays_in).inside)

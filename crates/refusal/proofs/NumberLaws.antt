@@ -4,10 +4,9 @@ use mathlib.Core.List.{[], ◌∷◌}
 use Prim.Native.Nat.{ℕ, ◌-◌, ◌<◌}
 use native.Mathlib.Omega.{arith}
 use lib.ListN.{get_or}
-use Rattle.std.specs.Prelude.{Result, Ok, Err}
 use Rattle.refusal.specs.declared.Refusal.{Refusal}
 use Rattle.refusal.specs.declared.Refusal.TheVariants.{Size, Length, Cell, Move, Cost, Tables, Room, File, CutOff}
-use Rattle.refusal.specs.Numbers.{number_of, number_in}
+use Rattle.refusal.specs.Numbers.{number_of}
 
 -- The refusal that has a number ..
 abbrev pub refusal_of : ℕ → Refusal
@@ -25,11 +24,6 @@ refusal_is Room = refl
 refusal_is File = refl
 refusal_is CutOff = refl
 
--- Every number is above 0 ..
+-- Every number is above 0.
 pub numbered : (r : Refusal) → 0 < number_of r
 numbered r = grind arith
-
--- .. so a result with number 0 is done.
-pub not_refused : {A : Type 0} (r : Result A Refusal) → number_in r ≡ 0 → (x : A) × (r ≡ Ok x)
-not_refused (Ok x) e = (x, refl)
-not_refused (Err r) e = absurd (omega (arith, numbered r, e))

@@ -29,7 +29,7 @@ use Rattle.tables.specs.Sound.{Sound}
 use Rattle.tables.specs.Told.{Told, told_way}
 use Rattle.tables.proofs.FrameLaws.{graph_in_laws}
 use Rattle.entries.specs.declared.Aim.{Aim}
-use Rattle.entries.specs.Aims.{aim_by, AimOf, Aimed, Held}
+use Rattle.entries.specs.Aims.{aim_by, AimOf, Aimed}
 use Rattle.steps.specs.Loop.{Started, Finished}
 use Rattle.take_over.specs.TakeOver.{Holds, Takes}
 use Rattle.answer.specs.Way.{Leads}
@@ -72,10 +72,6 @@ module _ {s : Session} {t : Tables} (S : Sound s t) (e : s.hunter ≡ s.target) 
   }
 
 -- ---- the search proper
-
--- The plan still has a column after the take-over.
-pub wide_after : {s r : Session} {t t' : Tables} {m : calls.State} → Sound s t → Holds s m r t' → 1 ≤ r.width
-wide_after S H = omega (arith, ap (λ f. f.width) H.frame_is, S.plan.size.wide)
 
 -- The record that a search leaves: so many cells queued, so many searches.
 abbrev pub left_by : Session → ℕ → ℕ → Session
@@ -193,9 +189,6 @@ module _ {s : Session} {t : Tables} (S : Sound s t) where
             };
             not_above = λ f. (led f).3;
           })
-
-      pub long_after : Held (aim_by (frame s) (calls.taken_over (graph s t) (session s) (core t)).session a.target_at) n (tables t.plan g₂ rhs₂ parent₂ k1₂ k2₂ place₂ list₂)
-      long_after = record { sized = during.sized; heap = finished.tables.heap }
 
       -- what the method answers
       module _ (apart : s.hunter ≢ s.target) where

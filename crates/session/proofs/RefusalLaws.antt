@@ -54,10 +54,6 @@ answered_in (Err r) = sym (refused_in (number_of r) (numbered r) ∙ ap Err (ref
 pub answer_is : (a : Result Unit Refusal) (n : ℕ) → told_by a ≡ told_number n → a ≡ answered n
 answer_is a n e = answered_in a ∙ ap answered (number_is a n e)
 
--- Two answers told alike are one.
-pub told_alike : (a b : Result Unit Refusal) → told_by a ≡ told_by b → a ≡ b
-told_alike a b e = answer_is a (number_in b) (e ∙ told_in b) ∙ sym (answered_in b)
-
 -- ---- one number
 
 pub place_number : (s : Session) {cell k l : ℕ} → PlaceRules s cell k → PlaceRules s cell l → k ≡ l

@@ -2,10 +2,9 @@
 use mathlib.Core.Path.{◌≡◌, sym, ap, subst, ◌∙◌}
 use mathlib.Core.Bool.{Bool}
 use mathlib.Core.List.{List}
-use Prim.Native.Nat.{ℕ, ◌-◌, ◌*◌, ◌≤◌, ◌<◌}
+use Prim.Native.Nat.{ℕ, ◌*◌, ◌<◌}
 use native.Mathlib.Omega.{arith}
-use lib.ListN.{length, take, drop}
-use lib.Seq.{length-take-le}
+use lib.ListN.{length}
 use Rattle.decide.proofs.ChooseLaws.{choose_is}
 use Rattle.method.specs.Graph.{Graph, GraphLaws}
 use Rattle.method.specs.Tables as method
@@ -15,28 +14,20 @@ use Rattle.method.specs.During.{During}
 use Rattle.method.proofs.Readying.{fresh_sized}
 use Rattle.method.proofs.Fresh.{fresh_run, fresh_during, fresh_ran, fresh_none, fresh_cheapest, fresh_above, fresh_small}
 use Rattle.plan.specs.Cells.{Size}
-use Rattle.plan.specs.Reached.{At}
 use Rattle.plan.specs.Costs.{Plan, plan_of, cells, Obeys}
 use Rattle.plan.specs.Grid.{graph_of}
 use Rattle.plan.proofs.GridLaws.{graph_laws}
 use Rattle.plan.proofs.MoveLaws.{area}
 use Rattle.tables.specs.declared.Session.{Session}
-use Rattle.tables.specs.Lent.{Tables, tables, frame, frame_of_size, core, Fits}
+use Rattle.tables.specs.Lent.{Tables, tables, frame, frame_of_size, core}
 use Rattle.entries.specs.declared.Aim.{Aim}
-use Rattle.entries.specs.Aims.{aim_by, aim_of, AimOf, Aimed}
-use Rattle.entries.specs.Begin.{Openable, placed_on, begun, Opened}
+use Rattle.entries.specs.Aims.{aim_by, aim_of, AimOf}
+use Rattle.entries.specs.Begin.{placed_on, begun, Opened}
 use Rattle.entries.proofs.BeginLaws.{opened_on}
 use Rattle.steps.specs.Loop.{Started, Finished}
 use Rattle.through.specs.Through.{LeastCost, none_leads, costs, cost_in, Readable}
 
 -- ---- the tables lent
-
--- The first n of a list, as a part of it is lent.
-abbrev pub part : ℕ → List ℕ → List ℕ
-part n l = take (n - 0) (drop 0 l)
-
-pub part_long : (l : List ℕ) (n : ℕ) → n ≤ length l → length (part n l) ≡ n
-part_long l n h = let e : n - 0 ≡ n = omega arith in ap (λ k. length (take k l)) e ∙ length-take-le n l h
 
 -- ---- on the definitions
 
@@ -67,14 +58,6 @@ module _ {width height from to : ℕ} {plan : List ℕ} (O : Obeys (plan_of widt
   laws : GraphLaws (graph_of (plan_of width height plan))
   laws = graph_laws (plan_of width height plan) O.size
 
-  pub openable : {g rhs parent k1 k2 place list : List ℕ} → Fits (height * width) (tables plan g rhs parent k1 k2 place list)
-      → Openable (frame_of_size width height) from to (tables plan g rhs parent k1 k2 place list)
-  openable f = record { fits = f; hunter_in = from_in; target_in = to_in; obeys = O }
-
-  -- The plan has a column.
-  pub wide : {r : Session} → r ≡ begun (frame_of_size width height) from to → 1 ≤ r.width
-  wide e = omega (arith, ap (λ (s : Session). s.width) e, O.size.wide)
-
   module _ {s r : Session} {a : Aim} {g₀ rhs₀ parent₀ k1₀ k2₀ place₀ list₀ g₁ rhs₁ parent₁ k1₁ k2₁ place₁ list₁ : List ℕ} (q : s ≡ placed_on (frame_of_size width height) from to)
       (B : (r ≡ begun (frame s) s.hunter s.target) × Opened (frame s) s.hunter s.target (tables plan g₀ rhs₀ parent₀ k1₀ k2₀ place₀ list₀) (tables plan g₁ rhs₁ parent₁ k1₁ k2₁ place₁ list₁))
       (A : AimOf r a) where
@@ -89,17 +72,6 @@ module _ {width height from to : ℕ} {plan : List ℕ} (O : Obeys (plan_of widt
 
     aim_is : a ≡ aim_by (frame_of_size width height) (opened from to) a.target_at
     aim_is = A.is ∙ ap (λ (s : Session). aim_of s a.target_at) e
-
-    pub run_aimed : Aimed a plan
-    run_aimed =
-        subst (λ x. Aimed x plan) (sym aim_is)
-        (record {
-          obeys = O;
-          hunter_in = from_in;
-          target_in = to_in;
-          target_at = subst (λ (s : Session). At s.width s.goal a.target_at) e A.target_at;
-          km_le = omega arith;
-        })
 
     pub run_started : Started a (3 * (height * width)) r.count (tables plan g₁ rhs₁ parent₁ k1₁ k2₁ place₁ list₁)
     run_started =
