@@ -73,7 +73,18 @@ pub fn check_open(
     if !plan::is_size(width, height) {
         return Err(Refusal::Size);
     }
-    if !tables::lengths_hold(width, height, plan, g, ahead) {
+    if !tables::lengths_hold(
+        width,
+        height,
+        plan,
+        g,
+        &ahead.rhs,
+        &ahead.parent,
+        &ahead.k1,
+        &ahead.k2,
+        &ahead.place,
+        &ahead.list,
+    ) {
         return Err(Refusal::Length);
     }
     let cells = height * width;
@@ -127,10 +138,31 @@ pub fn check_tables(s: Session, plan: &[u8], g: &[u32], ahead: &Ahead) -> Result
     if !plan::is_size(s.width, s.height) {
         return Err(Refusal::Size);
     }
-    if !tables::lengths_hold(s.width, s.height, plan, g, ahead) {
+    if !tables::lengths_hold(
+        s.width,
+        s.height,
+        plan,
+        g,
+        &ahead.rhs,
+        &ahead.parent,
+        &ahead.k1,
+        &ahead.k2,
+        &ahead.place,
+        &ahead.list,
+    ) {
         return Err(Refusal::Length);
     }
-    if !tables::is_sound(s, plan, g, ahead) {
+    if !tables::is_sound(
+        s,
+        plan,
+        g,
+        &ahead.rhs,
+        &ahead.parent,
+        &ahead.k1,
+        &ahead.k2,
+        &ahead.place,
+        &ahead.list,
+    ) {
         return Err(Refusal::Tables);
     }
     Ok(())

@@ -20,7 +20,6 @@ use Rattle.plan.specs.declared.Spot.{Spot}
 use Rattle.plan.proofs.CellLaws.{stands_row, stands_column, entered_sum, enters}
 use Rattle.plan.proofs.MoveLaws.{area}
 use Rattle.tables.specs.declared.Session.{Session}
-use Rattle.tables.specs.declared.Ahead.{Ahead}
 use Rattle.tables.specs.Asked.{WayAsked}
 use Rattle.tables.specs.Rules.{MoveRule, WayRule, WaitingRule}
 
@@ -43,7 +42,7 @@ module _ {width height u d : ℕ} (bytes rhs parent : List ℕ) (hunter x : ℕ)
       (λ W. rw (← ev, ← eb) at (W.stays_in m))
 
 -- the cell that a move enters can be computed, and is in the plan
-module _ {width height u d : ℕ} {plan : List ℕ} {t : Ahead} {at : Spot} (W : WayAsked width height plan t u at d) (stays : Stays width height u d) where
+module _ {width height u d : ℕ} {plan rhs parent : List ℕ} {at : Spot} (W : WayAsked width height plan rhs parent u at d) (stays : Stays width height u d) where
   pub entered_asks : (width ≤ 64) × (u < most_cells) × (width + 1 ≤ u + row_step d * width + column_step d)
   entered_asks = (W.size.narrow, omega (arith, W.inside, area W.size), omega (arith, entered_sum width u d W.size.wide stays.north stays.west))
 

@@ -5,9 +5,8 @@ use Rattle.plan.specs.declared.Spot.{Spot}
 use Rattle.plan.specs.Cells.{Size}
 use Rattle.plan.specs.Reached.{At}
 use Rattle.tables.specs.declared.Session.{Session}
-use Rattle.tables.specs.declared.Ahead.{Ahead}
 use Rattle.tables.specs.Lent.{cells}
-use Rattle.tables.specs.Rules.{Numbers, WaitingRule, AloneRule}
+use Rattle.tables.specs.Rules.{Numbers}
 
 -- A look at cell u, which stands at `at`; the search's target stands at `aim`.
 pub record CellAsked (s : Session) (u : ℕ) (at aim : Spot) : Type 0 where
@@ -17,34 +16,23 @@ pub record CellAsked (s : Session) (u : ℕ) (at aim : Spot) : Type 0 where
   pub here : At s.width u at
   pub there : At s.width s.goal aim
 
--- The queue's tables have a place for each of n cells.
-abbrev pub QueueFits : ℕ → Ahead → Type 0
-QueueFits n t = Lengths n t.k1.now t.k2.now t.place.now t.list.now
-
 -- .. in tables of which each has a place for every cell.
-pub record AloneAsked (s : Session) (g : List ℕ) (t : Ahead) (u : ℕ) (at aim : Spot) : Type 0 where
+pub record AloneAsked (s : Session) (g rhs parent k1 k2 place list : List ℕ) (u : ℕ) (at aim : Spot) : Type 0 where
   pub cell : CellAsked s u at aim
   pub long_g : length g ≡ cells s
-  pub long_rhs : length t.rhs.now ≡ cells s
-  pub long_parent : length t.parent.now ≡ cells s
-  pub queue : QueueFits (cells s) t
+  pub long_rhs : length rhs ≡ cells s
+  pub long_parent : length parent ≡ cells s
+  pub queue : Lengths (cells s) k1 k2 place list
 
 -- A look at the move in direction d from cell u, which stands at `at`.
-pub record WayAsked (width height : ℕ) (plan : List ℕ) (t : Ahead) (u : ℕ) (at : Spot) (d : ℕ) : Type 0 where
+pub record WayAsked (width height : ℕ) (plan rhs parent : List ℕ) (u : ℕ) (at : Spot) (d : ℕ) : Type 0 where
   pub size : Size width height
   pub long_plan : length plan ≡ 4 * (height * width)
-  pub long_rhs : length t.rhs.now ≡ height * width
-  pub long_parent : length t.parent.now ≡ height * width
+  pub long_rhs : length rhs ≡ height * width
+  pub long_parent : length parent ≡ height * width
   pub inside : u < height * width
   pub here : At width u at
   pub direction : d < 4
-
--- The rules of a queued cell, and of a cell by itself, in the tables ahead of g.
-abbrev pub WaitingLent : Session → Ahead → ℕ → ℕ → ℕ → Type 0
-WaitingLent s t x y u = WaitingRule s t.k1.now t.k2.now t.place.now t.list.now x y u
-
-abbrev pub AloneLent : Session → List ℕ → Ahead → ℕ → Type 0
-AloneLent s g t u = AloneRule s g t.rhs.now t.parent.now t.k1.now t.k2.now t.place.now t.list.now u
 
 -- The numbers of a table of 32 bits.
 abbrev pub Words : List ℕ → Type 0

@@ -5,12 +5,13 @@ ghost use Rattle.std.specs.Prelude.{◌≡◌, ◌⊎◌, ◌+◌, ◌*◌, ◌�
 ghost use Rattle.decide.specs.Decides.{Decides};
 ghost use Rattle.method.specs.Numbers.{infinite, most_estimate};
 ghost use Rattle.method.specs.Tables.{NotAbove};
+ghost use Rattle.queue.specs.Rules.{Lengths};
 ghost use Rattle.plan.specs.Cells.{Size};
 ghost use Rattle.plan.specs.Costs.{plan_of};
-ghost use Rattle.tables.specs.Lent.{lent, cells, Fits};
+ghost use Rattle.tables.specs.Lent.{tables, cells, Fits};
 ghost use Rattle.tables.specs.Sound.{Sound};
-ghost use Rattle.tables.specs.Rules.{Numbers, SumRule, MoveRule, WayRule, OwnRule, FirstFault};
-ghost use Rattle.tables.specs.Asked.{CellAsked, QueueFits, AloneAsked, WayAsked, WaitingLent, AloneLent, Words};
+ghost use Rattle.tables.specs.Rules.{Numbers, SumRule, MoveRule, WayRule, OwnRule, WaitingRule, AloneRule, FirstFault};
+ghost use Rattle.tables.specs.Asked.{CellAsked, AloneAsked, WayAsked};
 
 use plan;
 use plan::Spot;
@@ -55,19 +56,30 @@ const MOST_ESTIMATE: u32 = 126;
 const GROWTH: u32 = 1024250;
 
 // Has every table the length that the plan's size gives?
-pub fn lengths_hold(width: usize, height: usize, plan: &[u8], g: &[u32], ahead: &Ahead) -> bool
+pub fn lengths_hold(
+    width: usize,
+    height: usize,
+    plan: &[u8],
+    g: &[u32],
+    rhs: &[u32],
+    parent: &[u8],
+    k1: &[u32],
+    k2: &[u32],
+    place: &[u16],
+    list: &[u16],
+) -> bool
     requires { Size width height }
-    ensures { Decides result (Fits (height * width) (lent plan.now g.now ahead.now)) }
+    ensures { Decides result (Fits (height * width) (tables plan.now g.now rhs.now parent.now k1.now k2.now place.now list.now)) }
 {
     let cells = height * width;
     plan.len() == 4 * cells
         && g.len() == cells
-        && ahead.rhs.len() == cells
-        && ahead.parent.len() == cells
-        && ahead.k1.len() == cells
-        && ahead.k2.len() == cells
-        && ahead.place.len() == cells
-        && ahead.list.len() == cells
+        && rhs.len() == cells
+        && parent.len() == cells
+        && k1.len() == cells
+        && k2.len() == cells
+        && place.len() == cells
+        && list.len() == cells
 }
 
 // Are the record's cells in the plan, and its numbers in their bounds?
@@ -93,18 +105,26 @@ fn sum_holds(hunter: usize, v: usize, r: u32, p: u8, sum: usize, k: u8) -> bool
     if p == k {
         return own == sum;
     }
-    own <= sum || v == hunter
+    if own <= sum {
+        return true;
+    }
+    v == hunter
 }
 
 // Is b a cost or shut, and does cell v agree with the move of byte b into it from a cell whose g is x? The sum is taken in 64 bits, so that no content wraps and infinite needs no test.
 fn move_holds(hunter: usize, b: u8, x: u32, v: usize, r: u32, p: u8, k: u8) -> bool
     ensures { Decides result (MoveRule hunter b x v r p k) }
 {
-    match b {
-        1..=plan::MOST_COST => sum_holds(hunter, v, r, p, x as usize + b as usize, k),
-        plan::SHUT => p != k,
-        _ => false,
+    if b <= plan::MOST_COST {
+        if b == 0 {
+            return false;
+        }
+        return sum_holds(hunter, v, r, p, x as usize + b as usize, k);
     }
+    if b != plan::SHUT {
+        return false;
+    }
+    p != k
 }
 
 // Does the move from cell u, whose g is x, in direction d agree with the plan's edge, or else with the cell that it enters?
@@ -113,36 +133,34 @@ fn way_holds(
     height: usize,
     hunter: usize,
     plan: &[u8],
-    ahead: &Ahead,
+    rhs: &[u32],
+    parent: &[u8],
     x: u32,
     u: usize,
     at: Spot,
     d: usize,
 ) -> bool
-    requires { WayAsked width height plan.now ahead.now u at d }
-    ensures { Decides result (WayRule (plan_of width height plan.now) ahead.now.rhs.now ahead.now.parent.now hunter x u d) }
+    requires { WayAsked width height plan.now rhs.now parent.now u at d }
+    ensures { Decides result (WayRule (plan_of width height plan.now) rhs.now parent.now hunter x u d) }
 {
     let b = plan[4 * u + d];
     if !plan::stays_in(width, height, at, d) {
-        return b == plan::SHUT && ahead.parent[u] as usize != d + 1;
+        return b == plan::SHUT && parent[u] as usize != d + 1;
     }
     let v = plan::entered(width, u, d);
-    move_holds(
-        hunter,
-        b,
-        x,
-        v,
-        ahead.rhs[v],
-        ahead.parent[v],
-        plan::back_code(d),
-    )
+    let r = rhs[v];
+    let p = parent[v];
+    move_holds(hunter, b, x, v, r, p, plan::back_code(d))
 }
 
 // Is x infinite or within the bound?
 fn bound_holds(bound: u32, x: u32) -> bool
     ensures { Decides result ((x ≡ infinite) ⊎ (x ≤ bound)) }
 {
-    x <= bound || x == INFINITE
+    if x <= bound {
+        return true;
+    }
+    x == INFINITE
 }
 
 // Do a cell's own numbers obey their rules?
@@ -153,13 +171,18 @@ fn own_holds(bound: u32, hunter: usize, s: usize, g: u32, r: u32, p: u8) -> bool
         return false;
     }
     if s == hunter {
-        return r <= bound && p == 0;
+        if bound < r {
+            return false;
+        }
+        return p == 0;
     }
-    match p {
-        0 => r == INFINITE,
-        1..=4 => r != INFINITE,
-        _ => false,
+    if p == 0 {
+        return r == INFINITE;
     }
+    if 4 < p {
+        return false;
+    }
+    r != INFINITE
 }
 
 // Is the stored key (a, b) not above the calculated one? e is the estimate to the target.
@@ -170,50 +193,63 @@ fn key_holds(a: u32, b: u32, g: u32, r: u32, e: usize, km: u32) -> bool
     let m = g.min(r);
     let first = m as usize + e + km as usize;
     let stored = a as usize;
-    stored < first || stored == first && b <= m
+    if stored != first {
+        return stored < first;
+    }
+    b <= m
 }
 
 // Is cell u, whose g x and rhs y differ, queued under a stored key that is not above the calculated one? It stands at `at`, the search's target at `aim`.
-fn waiting_holds(s: Session, ahead: &Ahead, x: u32, y: u32, u: usize, at: Spot, aim: Spot) -> bool
+fn waiting_holds(
+    s: Session,
+    k1: &[u32],
+    k2: &[u32],
+    place: &[u16],
+    list: &[u16],
+    x: u32,
+    y: u32,
+    u: usize,
+    at: Spot,
+    aim: Spot,
+) -> bool
     requires cell_asked { CellAsked s u at aim }
-    requires lengths { QueueFits (cells s) ahead.now }
-    ensures { Decides result (WaitingLent s ahead.now x y u) }
+    requires lengths { Lengths (cells s) k1.now k2.now place.now list.now }
+    ensures { Decides result (WaitingRule s k1.now k2.now place.now list.now x y u) }
 {
-    let place = &*ahead.place;
-    let list = &*ahead.list;
     queue::queued_holds(place, list, s.count, u)
-        && key_holds(
-            ahead.k1[u],
-            ahead.k2[u],
-            x,
-            y,
-            plan::estimate(at, aim),
-            s.km,
-        )
+        && key_holds(k1[u], k2[u], x, y, plan::estimate(at, aim), s.km)
 }
 
 // Does cell u, which stands at `at`, obey its own rules and the queue's, and does place u of the list? It is queued, and has a key to compare, exactly if g and rhs differ.
-fn alone_holds(s: Session, g: &[u32], ahead: &Ahead, u: usize, at: Spot, aim: Spot) -> bool
-    requires { AloneAsked s g.now ahead.now u at aim }
-    ensures { Decides result (AloneLent s g.now ahead.now u) }
+fn alone_holds(
+    s: Session,
+    g: &[u32],
+    rhs: &[u32],
+    parent: &[u8],
+    k1: &[u32],
+    k2: &[u32],
+    place: &[u16],
+    list: &[u16],
+    u: usize,
+    at: Spot,
+    aim: Spot,
+) -> bool
+    requires { AloneAsked s g.now rhs.now parent.now k1.now k2.now place.now list.now u at aim }
+    ensures { Decides result (AloneRule s g.now rhs.now parent.now k1.now k2.now place.now list.now u) }
 {
-    let k1 = &*ahead.k1;
-    let k2 = &*ahead.k2;
-    let place = &*ahead.place;
-    let list = &*ahead.list;
     if !queue::entry_holds(s.width, k1, k2, place, list, s.count, u) {
         return false;
     }
     let x = g[u];
-    let y = ahead.rhs[u];
+    let y = rhs[u];
     let bound = GROWTH * s.searches;
-    if !own_holds(bound, s.origin, u, x, y, ahead.parent[u]) {
+    if !own_holds(bound, s.origin, u, x, y, parent[u]) {
         return false;
     }
     if x == y {
         return queue::absent_holds(k1, k2, place, u);
     }
-    waiting_holds(s, ahead, x, y, u, at, aim)
+    waiting_holds(s, k1, k2, place, list, x, y, u, at, aim)
 }
 
 // Where the check finds a rule broken: in the record's own numbers, in a cell by itself, or in a cell's move in a direction.
@@ -225,10 +261,20 @@ pub enum Fault {
 }
 
 // The first place at fault, if there is one. One walk over cells and directions, left as soon as one rule fails; row and column are carried along.
-pub fn first_fault(s: Session, plan: &[u8], g: &[u32], ahead: &Ahead) -> Option<Fault>
+pub fn first_fault(
+    s: Session,
+    plan: &[u8],
+    g: &[u32],
+    rhs: &[u32],
+    parent: &[u8],
+    k1: &[u32],
+    k2: &[u32],
+    place: &[u16],
+    list: &[u16],
+) -> Option<Fault>
     requires size { Size s.width s.height }
-    requires fits { Fits (cells s) (lent plan.now g.now ahead.now) }
-    ensures { FirstFault s (lent plan.now g.now ahead.now) result }
+    requires fits { Fits (cells s) (tables plan.now g.now rhs.now parent.now k1.now k2.now place.now list.now) }
+    ensures { FirstFault s (tables plan.now g.now rhs.now parent.now k1.now k2.now place.now list.now) result }
 {
     if !numbers_hold(s) {
         return Some(Fault::InRecord);
@@ -238,13 +284,13 @@ pub fn first_fault(s: Session, plan: &[u8], g: &[u32], ahead: &Ahead) -> Option<
     let mut at = Spot { row: 0, column: 0 };
     let mut fault = None;
     'cells: for u in 0..cells {
-        if !alone_holds(s, g, ahead, u, at, aim) {
+        if !alone_holds(s, g, rhs, parent, k1, k2, place, list, u, at, aim) {
             fault = Some(Fault::InCell(u));
             break 'cells;
         }
         let x = g[u];
         for d in 0..4 {
-            if !way_holds(s.width, s.height, s.origin, plan, ahead, x, u, at, d) {
+            if !way_holds(s.width, s.height, s.origin, plan, rhs, parent, x, u, at, d) {
                 fault = Some(Fault::InMove(u, d));
                 break 'cells;
             }
@@ -254,20 +300,21 @@ pub fn first_fault(s: Session, plan: &[u8], g: &[u32], ahead: &Ahead) -> Option<
     fault
 }
 
-// Each number of a table fits its 32 bits: nothing to do, since the table's type says so.
-fn words(xs: &[u32])
-    ensures { Words xs.now }
-{}
-
 // Are the tables sound? Yes exactly if no place is at fault.
-pub fn is_sound(s: Session, plan: &[u8], g: &[u32], ahead: &Ahead) -> bool
+pub fn is_sound(
+    s: Session,
+    plan: &[u8],
+    g: &[u32],
+    rhs: &[u32],
+    parent: &[u8],
+    k1: &[u32],
+    k2: &[u32],
+    place: &[u16],
+    list: &[u16],
+) -> bool
     requires size { Size s.width s.height }
-    requires fits { Fits (cells s) (lent plan.now g.now ahead.now) }
-    ensures { Decides result (Sound s (lent plan.now g.now ahead.now)) }
+    requires fits { Fits (cells s) (tables plan.now g.now rhs.now parent.now k1.now k2.now place.now list.now) }
+    ensures { Decides result (Sound s (tables plan.now g.now rhs.now parent.now k1.now k2.now place.now list.now)) }
 {
-    let rhs = &*ahead.rhs;
-    let k2 = &*ahead.k2;
-    words(rhs);
-    words(k2);
-    first_fault(s, plan, g, ahead).is_none()
+    first_fault(s, plan, g, rhs, parent, k1, k2, place, list).is_none()
 }

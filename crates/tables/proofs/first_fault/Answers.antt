@@ -2,7 +2,7 @@
 use borrow.Author.Count.{below_more}
 use native.Mathlib.Omega.{arith}
 use Rattle.decide.proofs.DecideLaws.{refuted}
-use Rattle.tables.specs.Lent.{lent}
+use Rattle.tables.specs.Lent.{tables}
 use Rattle.tables.specs.Rules.{RulesBefore, nowhere, in_record, in_cell, in_move}
 use Rattle.tables.proofs.first_fault.Goals as goal
 
@@ -31,7 +31,7 @@ returns-after-cells c = let numbers = c.numbers_hold.ensures.so c.if-not-numbers
 
 pub returns-then-not-alone_holds : goal.returns-then-not-alone_holds
 returns-then-not-alone_holds c = let numbers = c.numbers_hold.ensures.so c.if-not-numbers_hold.false in
-    let rules_before : RulesBefore c.args.s (lent c.args.plan.now c.args.g.now c.args.ahead.now) c.cells.u =
+    let rules_before : RulesBefore c.args.s (tables c.args.plan.now c.args.g.now c.args.rhs.now c.args.parent.now c.args.k1.now c.args.k2.now c.args.place.now c.args.list.now) c.cells.u =
     record { numbers = numbers; each_cell = c.cells.invariant.3 } in
     in_cell c.cells-test.true rules_before (refuted c.alone_holds.ensures c.if-not-alone_holds.true)
 
@@ -39,7 +39,7 @@ pub returns-then-not-way_holds : goal.returns-then-not-way_holds
 returns-then-not-way_holds c =
     let alone = c.alone_holds.ensures.so c.if-not-alone_holds.false in
     let numbers = c.numbers_hold.ensures.so c.if-not-numbers_hold.false in
-    let rules_before : RulesBefore c.args.s (lent c.args.plan.now c.args.g.now c.args.ahead.now) c.cells.u =
+    let rules_before : RulesBefore c.args.s (tables c.args.plan.now c.args.g.now c.args.rhs.now c.args.parent.now c.args.k1.now c.args.k2.now c.args.place.now c.args.list.now) c.cells.u =
     record { numbers = numbers; each_cell = c.cells.invariant.3 } in
     in_move c.cells-test.true c.loop-d-test.true rules_before alone c.loop-d.invariant.2
     (refuted c.way_holds.ensures c.if-not-way_holds.true)

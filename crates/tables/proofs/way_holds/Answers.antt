@@ -15,16 +15,16 @@ returns-else-b c = way_open_outward _ _ _ _ _ refl (refuted (c.stays_in.ensures 
 pub entered-v-requires-clause-width_bound : goal.entered-v-requires-clause-width_bound
 entered-v-requires-clause-width_bound c = entered_asks c.requires ((c.stays_in.ensures _ c.requires.here c.requires.inside).so c.if-not-stays_in.false)
 
-pub offset_bounds-ahead-v : goal.offset_bounds-ahead-v
-offset_bounds-ahead-v c = let stays = (c.stays_in.ensures _ c.requires.here c.requires.inside).so c.if-not-stays_in.false in
+pub offset_bounds-rhs-v : goal.offset_bounds-rhs-v
+offset_bounds-rhs-v c = let stays = (c.stays_in.ensures _ c.requires.here c.requires.inside).so c.if-not-stays_in.false in
     omega (arith, entered_in c.requires stays c.entered-v.ensures, area c.requires.size)
 
-pub bounds-ahead-v : goal.bounds-ahead-v
-bounds-ahead-v c = let stays = (c.stays_in.ensures _ c.requires.here c.requires.inside).so c.if-not-stays_in.false in
+pub bounds-rhs-v : goal.bounds-rhs-v
+bounds-rhs-v c = let stays = (c.stays_in.ensures _ c.requires.here c.requires.inside).so c.if-not-stays_in.false in
     omega (arith, entered_in c.requires stays c.entered-v.ensures, c.requires.long_rhs)
 
-pub bounds-ahead-v-2 : goal.bounds-ahead-v-2
-bounds-ahead-v-2 c = let stays = (c.stays_in.ensures _ c.requires.here c.requires.inside).so c.if-not-stays_in.false in
+pub bounds-parent-v : goal.bounds-parent-v
+bounds-parent-v c = let stays = (c.stays_in.ensures _ c.requires.here c.requires.inside).so c.if-not-stays_in.false in
     omega (arith, entered_in c.requires stays c.entered-v.ensures, c.requires.long_parent)
 
 pub returns : goal.returns
