@@ -4,7 +4,7 @@
 ghost use Rattle.std.specs.Prelude.{◌≡◌, ◌+◌, ◌≤◌, ◌<◌, length, Option, Some};
 ghost use Rattle.decide.specs.Decides.{Decides};
 ghost use Rattle.plan.specs.Cells.{Size};
-ghost use Rattle.tables.specs.Lent.{lent, cells};
+ghost use Rattle.tables.specs.Lent.{lent, SameTables, cells};
 ghost use Rattle.text.specs.Put.{PutIn};
 ghost use Rattle.lines.specs.Lines.{room};
 ghost use Rattle.drill_file.specs.declared.Action.TheVariants.{Change, Search};
@@ -32,6 +32,7 @@ fn put_reply(reply: Reply, text: &mut Text) -> Session
     requires { text.old.used + room 0 ≤ length text.old.room.now }
     ensures session { result ≡ reply.session }
     ensures put { PutIn text.old (told reply.answer) text.new }
+    ensures same_room { text.new.room.ghost_name ≡ text.old.room.ghost_name }
 {
     if let Err(refusal) = reply.answer {
         lines::put_refusal(refusal, text);
@@ -52,7 +53,9 @@ fn play_change(
     text: &mut Text,
 ) -> Session
     requires { Ready s (lent plan.old g.now ahead.old) way.now text.old.room.now text.old.used }
-    ensures { Turns (Some (Change cell direction cost)) s (lent plan.old g.now ahead.old) way.now text.old.room.now text.old.used result (lent plan.new g.now ahead.new) way.now text.new.room.now text.new.used }
+    ensures turns { Turns (Some (Change cell direction cost)) s (lent plan.old g.now ahead.old) way.now text.old.room.now text.old.used result (lent plan.new g.now ahead.new) way.now text.new.room.now text.new.used }
+    ensures same_tables { SameTables ahead.old ahead.new }
+    ensures same_room { text.new.room.ghost_name ≡ text.old.room.ghost_name }
 {
     let reply = change::change_sound(s, plan, g, ahead, cell, direction, cost);
     put_reply(reply, text)
@@ -68,7 +71,9 @@ fn play_search(
     text: &mut Text,
 ) -> Session
     requires { Ready s (lent plan.now g.old ahead.old) way.old text.old.room.now text.old.used }
-    ensures { Turns (Some Search) s (lent plan.now g.old ahead.old) way.old text.old.room.now text.old.used result (lent plan.now g.new ahead.new) way.new text.new.room.now text.new.used }
+    ensures turns { Turns (Some Search) s (lent plan.now g.old ahead.old) way.old text.old.room.now text.old.used result (lent plan.now g.new ahead.new) way.new text.new.room.now text.new.used }
+    ensures same_tables { SameTables ahead.old ahead.new }
+    ensures same_room { text.new.room.ghost_name ≡ text.old.room.ghost_name }
 {
     let found = search::search_sound(s, plan, g, ahead, way);
     lines::put_answer(found.answer, way, text);
@@ -86,7 +91,9 @@ pub fn play_action(
     text: &mut Text,
 ) -> Session
     requires { Ready s (lent plan.old g.old ahead.old) way.old text.old.room.now text.old.used }
-    ensures { Turns action s (lent plan.old g.old ahead.old) way.old text.old.room.now text.old.used result (lent plan.new g.new ahead.new) way.new text.new.room.now text.new.used }
+    ensures turns { Turns action s (lent plan.old g.old ahead.old) way.old text.old.room.now text.old.used result (lent plan.new g.new ahead.new) way.new text.new.room.now text.new.used }
+    ensures same_tables { SameTables ahead.old ahead.new }
+    ensures same_room { text.new.room.ghost_name ≡ text.old.room.ghost_name }
 {
     let Some(action) = action else {
         return s;

@@ -3,7 +3,7 @@
 
 ghost use Rattle.std.specs.Prelude.{◌≡◌, ◌≤◌, length};
 ghost use Rattle.refusal.specs.Numbers.{number_of, number_in};
-ghost use Rattle.tables.specs.Lent.{lent, Fits};
+ghost use Rattle.tables.specs.Lent.{lent, SameTables, Fits};
 ghost use Rattle.lines.specs.Lines.{room};
 ghost use Rattle.drill_file.specs.File.{trailer_in, cells_in};
 ghost use Rattle.drill_file.specs.Numbers.{file_number};
@@ -42,7 +42,8 @@ fn check_file(file: &[u8], t: Trailer, plan: &[u8], g: &[u32], ahead: &Ahead) ->
 fn refuse(refusal: Refusal, text: &mut Text) -> Played
     requires empty { text.old.used ≡ 0 }
     requires text_room { room 0 ≤ length text.old.room.now }
-    ensures { Refuses (number_of refusal) text.old.room.now result text.new.room.now text.new.used }
+    ensures refuses { Refuses (number_of refusal) text.old.room.now result text.new.room.now text.new.used }
+    ensures same_room { text.new.room.ghost_name ≡ text.old.room.ghost_name }
 {
     lines::put_refusal(refusal, text);
     Played {
@@ -74,7 +75,9 @@ pub fn begin(
 ) -> Played
     requires t_value { t ≡ trailer_in file.now }
     requires opening { Opening file.now (lent plan.old g.old ahead.old) text.old.room.now }
-    ensures { Begins file.now (lent plan.old g.old ahead.old) text.old.room.now result (lent plan.new g.new ahead.new) text.new.room.now text.new.used }
+    ensures begins { Begins file.now (lent plan.old g.old ahead.old) text.old.room.now result (lent plan.new g.new ahead.new) text.new.room.now text.new.used }
+    ensures same_tables { SameTables ahead.old ahead.new }
+    ensures same_room { text.new.room.ghost_name ≡ text.old.room.ghost_name }
 {
     text.used = 0;
     if let Err(refusal) = check_file(file, t, plan, g, ahead) {

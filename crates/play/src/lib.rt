@@ -1,7 +1,8 @@
 // Playing: the actions of a drill, read through one reader that moves.
 #![tactic(auto)]
 
-ghost use Rattle.tables.specs.Lent.{lent};
+ghost use Rattle.std.specs.Prelude.{◌≡◌};
+ghost use Rattle.tables.specs.Lent.{lent, SameTables};
 ghost use Rattle.drill.specs.Promises.{Playing, Plays};
 
 use drill;
@@ -22,7 +23,9 @@ pub fn play<'a>(
     text: &mut Text,
 ) -> Played
     requires { Playing r.file.now s (lent plan.old g.old ahead.old) way.old r.at actions }
-    ensures { Plays r.entry.file.now s (lent plan.old g.old ahead.old) way.old r.entry.at actions text.old.room.now result (lent plan.new g.new ahead.new) way.new text.new.room.now text.new.used }
+    ensures plays { Plays r.entry.file.now s (lent plan.old g.old ahead.old) way.old r.entry.at actions text.old.room.now result (lent plan.new g.new ahead.new) way.new text.new.room.now text.new.used }
+    ensures same_tables { SameTables ahead.old ahead.new }
+    ensures same_room { text.new.room.ghost_name ≡ text.old.room.ghost_name }
 {
     text.used = 0;
     let mut reader = r;

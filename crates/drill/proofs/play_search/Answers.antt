@@ -8,5 +8,5 @@ put_answer-requires c =
     let few = shown_few c.requires.sound c.requires.way_room c.search_sound-found.ensures.searched in
     (omega (arith, few, c.requires.way_room, c.search_sound-found.auto.way), omega (arith, few, c.requires.text_room))
 
-pub returns : goal.returns
-returns c = search_turns c.requires.sound c.requires.way_room c.search_sound-found.ensures.searched c.put_answer.ensures.put
+pub returns-clause-turns : goal.returns-clause-turns
+returns-clause-turns c = search_turns c.requires.sound c.requires.way_room c.search_sound-found.ensures.searched c.put_answer.ensures.put

@@ -16,8 +16,8 @@ begin-session-requires c =
     let z = sym c.in_default.ensures in
     openable_on c.placed_on-placed.ensures (openable _ c.requires.opening.fits (file_formed _ z) c.copy_from_slice.ensures.after c.requires.t_value z)
 
-pub returns : goal.returns
-returns c =
+pub returns-clause-begins : goal.returns-clause-begins
+returns-clause-begins c =
     let z = sym c.in_default.ensures in
     begins_opened z
     (starts _ c.requires.opening.fits (file_formed _ z) c.copy_from_slice.ensures.after c.requires.t_value z (opened_on c.placed_on-placed.ensures c.begin-session.ensures.opened) c.opened.ensures)
