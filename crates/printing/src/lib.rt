@@ -2,7 +2,7 @@
 #![tactic(auto)]
 
 ghost use Rattle.std.specs.Prelude.{◌≡◌, ◌+◌, ◌≤◌, length, take};
-ghost use Rattle.tables.specs.Lent.{lent};
+ghost use Rattle.tables.specs.Lent.{lent, SameTables};
 ghost use Rattle.drill.specs.Output.{output};
 ghost use Rattle.printing.specs.Promises.{Piece, Printing, Moves, WrittenTo};
 
@@ -78,7 +78,9 @@ pub fn play_all<R: Print + Eprint>(
     text: &mut Text,
 )
     requires { Printing input.now got file.now s (lent plan.old g.old ahead.old) way.old start actions text.old.room.now count.old }
-    ensures { WrittenTo (length (output file.now)) count.new }
+    ensures written { WrittenTo (length (output file.now)) count.new }
+    ensures same_tables { SameTables ahead.old ahead.new }
+    ensures same_room { text.new.room.ghost_name ≡ text.old.room.ghost_name }
 {
     let mut r = Reader::new(file, start);
     let mut session = s;

@@ -2,6 +2,7 @@
 use mathlib.Core.Path.{subst, ap, ◌∙◌}
 use native.Mathlib.Omega.{arith}
 use Rattle.std.specs.Prelude.{length}
+use Rattle.std.proofs.Common.{rules}
 use Rattle.drill.specs.Output.{output}
 use Rattle.printing.specs.Promises.{WrittenTo}
 use Rattle.printing.proofs.PrintLaws.{goes_on, all_done, so_far_named, piece, next_so_far}
@@ -18,9 +19,11 @@ loop-left-preserved g c =
           (next_so_far so_far c.play-played.ensures.plays c.loop-left-test.true c.print-left.result c.print-left.new.count c.print-left.ensures c.play-played.auto.way)
           (ap (λ f. f.now) c.moved_to-r.ensures.0)
           c.moved_to-r.ensures.1,
+      search rules,
+      c.play-played.ensures.same_room ∙ c.loop-left.invariant.3,
     )
 
-pub returns : goal.returns
-returns g c =
+pub returns-clause-written : goal.returns-clause-written
+returns-clause-written g c =
     subst (λ f. WrittenTo (length (output f.now)) c.loop-left.count) (c.loop-left.invariant.0 ∙ c.new-r.ensures.0)
     (all_done c.loop-left.invariant.1 (omega (arith, c.loop-left-test.false)))
