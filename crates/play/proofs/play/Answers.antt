@@ -20,8 +20,7 @@ pub loop-reader-preserved : goal.loop-reader-preserved
 loop-reader-preserved c =
     let i = c.loop-reader.invariant in
     let read : c.next.result ≡ action_at c.args.r.file.now c.loop-reader.reader.at = c.next.ensures ∙ ap (λ (f : Bor (List ℕ)). action_at f.now c.loop-reader.reader.at) i.1 in
-    let turns = rw read at c.play_action-session.ensures.turns in
-    (
+    let turns = rw read at c.play_action-session.ensures.turns in (
       rw c.moved-reader.ensures.1 (going_more i.0 (c.goes_on.ensures.so c.loop-reader-test.true).0 turns),
       c.moved-reader.ensures.0 ∙ i.1,
       search rules,

@@ -1,4 +1,5 @@
--- Between two actions: the reader stands in the same file, tables and text are the caller's own, the actions played so far are those up to where it stands, and record, tables, way list and text are what the definitions give for them (`Going`).
+-- Between two actions: the reader stands in the same file, tables and text are the caller's own, the actions played so far are those up to where it stands,
+-- and record, tables, way list and text are what the definitions give for them (`Going`).
 use mathlib.Core.Path.{◌≡◌}
 use Rattle.tables.specs.Lent.{lent, SameTables}
 use Rattle.drill.proofs.PlayLaws.{Going}
