@@ -11,8 +11,8 @@ use borrow.Author.Count.{below_more}
 use Rattle.decide.proofs.RuledLaws.{passed_one, ruled_one, granted, passed_zero, onward}
 use Rattle.std.specs.Prelude.{Option, Some, None, Result, Ok, Err, is_some}
 use Rattle.refusal.specs.declared.Refusal.{Refusal}
-use Rattle.refusal.specs.Numbers.{number_of}
-use Rattle.refusal.proofs.NumberLaws.{refusal_of, refusal_is, numbered}
+use Rattle.refusal.specs.Numbers.{number_of, refusal_of}
+use Rattle.refusal.proofs.NumberLaws.{refusal_is, numbered}
 use Rattle.plan.specs.Costs.{Plan, plan_of, byte, IsCost, Obeys}
 use Rattle.plan.specs.Toward.{Leads, Neighbours, Toward, leading, nowhere}
 use Rattle.plan.proofs.MoveLaws.{cost_of}

@@ -11,7 +11,7 @@ use Rattle.method.specs.Walk.{Chain, stay}
 use Rattle.method.proofs.Answers.{chain_more}
 use Rattle.std.specs.Prelude.{Result, Ok, Err}
 use Rattle.refusal.specs.declared.Refusal.{Refusal}
-use Rattle.refusal.proofs.NumberLaws.{refusal_of}
+use Rattle.refusal.specs.Numbers.{refusal_of}
 use Rattle.plan.specs.Costs.{Plan, plan_of}
 use Rattle.plan.specs.Grid.{graph_of}
 use Rattle.plan.proofs.TowardLaws.{leads_open}

@@ -9,7 +9,8 @@ use lib.Seq.{take-append_seam}
 use Rattle.std.specs.Prelude.{Result, Ok, Err}
 use Rattle.refusal.specs.declared.Refusal.{Refusal}
 use Rattle.refusal.specs.declared.Refusal.TheVariants.{CutOff}
-use Rattle.refusal.proofs.NumberLaws.{refusal_of, refusal_is}
+use Rattle.refusal.specs.Numbers.{refusal_of}
+use Rattle.refusal.proofs.NumberLaws.{refusal_is}
 use Rattle.method.specs.Numbers.{infinite}
 use Rattle.method.specs.Session as method
 use Rattle.tables.specs.Told.{Name, done, caught, none_leads, way, refusal, Told, told_way}

@@ -59,7 +59,7 @@ action_at file at =
     choose (dec_le (at + 5) (length file)) (action_of (get_or file at 0) (two file (at + 1)) (get_or file (at + 3) 0) (get_or file (at + 4) 0))
     None
 
--- So many actions from a place on, none where one is badly formed.
+-- So many actions from a place on, with None in the place of one that is badly formed.
 unfoldable pub actions_from : List ℕ → ℕ → ℕ → List (Option Action)
 actions_from file at zero = []
 actions_from file at (suc n) = action_at file at ∷ actions_from file (at + 5) n

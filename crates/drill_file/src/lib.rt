@@ -8,11 +8,13 @@ ghost use Rattle.drill_file.specs.File.{two, trailer_of, trailer_in, action_of, 
 use plan;
 use refusal::Refusal;
 
-// The greatest length of a drill file, and the lengths of an action and of the trailer.
+// The greatest length of a drill file.
 pub const GREATEST_FILE: usize = 65536;
 
+// The length of an action.
 pub const ACTION: usize = 5;
 
+// The length of the trailer.
 pub const TRAILER: usize = 12;
 
 // What the last 12 bytes say.

@@ -9,9 +9,9 @@ use native.Mathlib.Omega.{arith}
 use native.Mathlib.Decide.{ℕ_discrete, dec_le, dec_lt}
 use lib.ListN.{length, get_or, take, drop, length-drop, drop_of_length-le}
 use lib.Seq.{length-take-le, take_at}
-use Rattle.std.specs.Prelude.{Option, Result, Ok}
+use Rattle.std.specs.Prelude.{Option, Result, Ok, Err}
 use Rattle.refusal.specs.declared.Refusal.{Refusal}
-use Rattle.refusal.specs.Numbers.{number_in}
+use Rattle.refusal.specs.Numbers.{refusal_of}
 use Rattle.decide.proofs.ChooseLaws.{choose_yes}
 use Rattle.decide.proofs.RuledLaws.{passed_zero, onward}
 use Rattle.plan.specs.Costs.{plan_of}
@@ -27,44 +27,48 @@ use Rattle.drill_writer.specs.Promise.{WriteTold, written_told, told_number, Fit
 use Rattle.drill_writer.proofs.PartLaws.{actions_there, cut}
 use Rattle.drill_writer.proofs.ActionLaws.{cut_actions, five_each, length_actions}
 use Rattle.drill_writer.proofs.TrailerLaws.{Small, same_trailer, trailer_back, cut_trailer}
-use Rattle.drill_writer.proofs.WriteLaws.{length_written, refusal_told, same_answer, write_number, write_granted, write_passes}
+use Rattle.drill_writer.proofs.WriteLaws.{length_written, answered, answer_is, write_number, write_granted, write_passes}
 
 -- ---- one result
 
 module _ {width height hunter target : ℕ} {plan actions file file' : List ℕ} {r : Result ℕ Refusal} (P : Writes width height hunter target plan actions file r file') where
-  -- The number in the answer is that of the first rule broken.
-  number_told : number_in r ≡ P.number
-  number_told = sym (refusal_told r) ∙ ap (λ (x : WriteTold). x.refusal) P.answer ∙ by P.number (length (bytes_for width height hunter target plan actions))
-    where
-      by : (k n : ℕ) → (told_number k n).refusal ≡ k
-      by zero n = refl
-      by (suc k) n = refl
+  -- The answer as the code returns it.
+  pub write_answer : r ≡ answered P.number (length (bytes_for width height hunter target plan actions))
+  write_answer = answer_is r P.number _ P.answer
 
   -- Refused by the number of the first rule broken, and nothing has changed ..
-  pub write_refused : {k : ℕ} → WriteRules width height hunter target plan actions (length file) k → k ≢ 0 → (number_in r ≡ k) × (file' ≡ file)
-  write_refused rules n =
+  pub write_refused : {k : ℕ} → WriteRules width height hunter target plan actions (length file) k → k ≢ 0 → (r ≡ Err (refusal_of k)) × (file' ≡ file)
+  write_refused {k} rules n =
       let e = write_number plan actions P.rules rules in
-      (number_told ∙ e, P.refused (λ z. n (sym e ∙ z)))
+      (write_answer ∙ by k e n, P.refused (λ z. n (sym e ∙ z)))
+    where
+      by : (k : ℕ) → P.number ≡ k → k ≢ 0 → answered P.number (length (bytes_for width height hunter target plan actions)) ≡ Err (refusal_of k)
+      by zero e n = absurd (n refl)
+      by (suc k) e n = ap (λ x. answered x (length (bytes_for width height hunter target plan actions))) e
 
   -- .. and where no rule is broken, written.
   pub write_done : Writable width height hunter target plan actions (length file)
       → (r ≡ Ok (length (bytes_for width height hunter target plan actions))) × (file' ≡ bytes_for width height hunter target plan actions ++ drop (length (bytes_for width height hunter target plan actions)) file)
   write_done W =
       let z = write_passes plan actions P.rules W in
-      (same_answer r (Ok _) (P.answer ∙ ap (λ k. told_number k (length (bytes_for width height hunter target plan actions))) z), P.done z)
+      (write_answer ∙ ap (λ x. answered x (length (bytes_for width height hunter target plan actions))) z, P.done z)
 
   -- The number told is k exactly if k is the number of the first rule broken, and 0 exactly if none is.
   pub write_exactly : (k : ℕ) → ((written_told r).refusal ≡ k) ↔ WriteRules width height hunter target plan actions (length file) k
-  write_exactly k = (
-    λ e. subst (WriteRules width height hunter target plan actions (length file)) (sym number_told ∙ sym (refusal_told r) ∙ e) P.rules,
-    λ rules. refusal_told r ∙ number_told ∙ write_number plan actions P.rules rules,
-  )
+  write_exactly k = (λ e. subst (WriteRules width height hunter target plan actions (length file)) (sym told ∙ e) P.rules, λ rules. told ∙ write_number plan actions P.rules rules)
+    where
+      by : (k n : ℕ) → (told_number k n).refusal ≡ k
+      by zero n = refl
+      by (suc k) n = refl
+
+      told : (written_told r).refusal ≡ P.number
+      told = ap (λ (x : WriteTold). x.refusal) P.answer ∙ by P.number (length (bytes_for width height hunter target plan actions))
 
 -- Two results that the statement allows are equal, every byte of the room too.
 pub one_writing : {width height hunter target : ℕ} {plan actions file a b : List ℕ} {r s : Result ℕ Refusal}
     → Writes width height hunter target plan actions file r a → Writes width height hunter target plan actions file s b → (r ≡ s) × (a ≡ b)
-one_writing {width} {height} {hunter} {target} {plan} {actions} {file} {a} {b} {r} {s} P Q =
-    (same_answer r s (P.answer ∙ ap (λ k. told_number k (length (bytes_for width height hunter target plan actions))) e ∙ sym Q.answer), at (ℕ_discrete P.number 0))
+one_writing {width} {height} {hunter} {target} {plan} {actions} {file} {a} {b} P Q =
+    (write_answer P ∙ ap (λ x. answered x (length (bytes_for width height hunter target plan actions))) e ∙ sym (write_answer Q), at (ℕ_discrete P.number 0))
   where
     e : P.number ≡ Q.number
     e = write_number plan actions P.rules Q.rules

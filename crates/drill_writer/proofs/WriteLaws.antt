@@ -2,14 +2,14 @@
 use mathlib.Core.Path.{◌≡◌, refl, sym, ap, subst, ◌∙◌}
 use mathlib.Core.Logic.{◌≢◌}
 use mathlib.Core.List.{List, ◌++◌}
-use Prim.Native.Nat.{ℕ, ◌+◌, ◌/◌, ◌≤◌}
+use Prim.Native.Nat.{ℕ, zero, suc, ◌+◌, ◌/◌, ◌≤◌}
 use native.Mathlib.Omega.{arith}
 use lib.ListN.{length, drop, take-append-drop}
 use Rattle.std.specs.Prelude.{Result, Ok, Err, IsErrAnd}
 use Rattle.refusal.specs.declared.Refusal.{Refusal}
 use Rattle.refusal.specs.declared.Refusal.TheVariants.{Size, Length, Cell, Move, Cost, Tables, Room, File, CutOff}
-use Rattle.refusal.specs.Numbers.{number_of, number_in}
-use Rattle.refusal.proofs.NumberLaws.{refusal_of, refusal_is, numbered}
+use Rattle.refusal.specs.Numbers.{number_of, number_in, refusal_of}
+use Rattle.refusal.proofs.NumberLaws.{refusal_is, numbered}
 use Rattle.decide.proofs.RuledLaws.{passed_one, ruled_one, granted, passed_zero, onward}
 use Rattle.text.specs.Put.{Put}
 use Rattle.text.proofs.PutLaws.{put_then, put_as}
@@ -37,22 +37,27 @@ put_whole {b} {a} {w} {r} p =
 
 -- ---- the answer
 
+-- The answer as the code returns it.
+abbrev pub answered : ℕ → ℕ → Result ℕ Refusal
+answered zero n = Ok n
+answered (suc k) n = Err (refusal_of (suc k))
+
+-- An answer told by its number is the number's.
+pub answer_is : (r : Result ℕ Refusal) (k n : ℕ) → written_told r ≡ told_number k n → r ≡ answered k n
+answer_is (Ok m) zero n e = ap Ok (ap (λ (x : WriteTold). x.bytes) e)
+answer_is (Ok m) (suc k) n e = absurd (omega (arith, ap (λ (x : WriteTold). x.refusal) e))
+answer_is (Err r) zero n e = absurd (omega (arith, numbered r, ap (λ (x : WriteTold). x.refusal) e))
+answer_is (Err r) (suc k) n e = ap Err (sym (refusal_is r) ∙ ap (λ (x : WriteTold). refusal_of x.refusal) e)
+
 -- The refusal that an answer tells is the number in it.
 pub refusal_told : (r : Result ℕ Refusal) → (written_told r).refusal ≡ number_in r
 refusal_told (Ok n) = refl
 refusal_told (Err x) = refl
 
 -- What is told of a refusal, by its number.
-pub refused_told : (r : Result ℕ Refusal) {k : ℕ} → number_in r ≡ k → k ≢ 0 → written_told r ≡ record { refusal = k; bytes = 0 }
+pub refused_told : (r : Result ℕ Refusal) {k : ℕ} → (written_told r).refusal ≡ k → k ≢ 0 → written_told r ≡ record { refusal = k; bytes = 0 }
 refused_told (Ok n) e z = absurd (z (sym e))
 refused_told (Err x) e z = rw e
-
--- Two answers that tell the same are one.
-pub same_answer : (r s : Result ℕ Refusal) → written_told r ≡ written_told s → r ≡ s
-same_answer (Ok n) (Ok m) e = ap Ok (ap (λ (x : WriteTold). x.bytes) e)
-same_answer (Ok n) (Err y) e = absurd (omega (arith, numbered y, ap (λ (x : WriteTold). x.refusal) e))
-same_answer (Err x) (Ok m) e = absurd (omega (arith, numbered x, ap (λ (y : WriteTold). y.refusal) e))
-same_answer (Err x) (Err y) e = ap Err (sym (refusal_is x) ∙ ap (λ (t : WriteTold). refusal_of t.refusal) e ∙ refusal_is y)
 
 -- What a refusal tells is told by its number.
 pub told_err : (n : ℕ) (x : Refusal) → written_told (Err x) ≡ told_number (number_of x) n

@@ -6,7 +6,7 @@ use Rattle.std.specs.Prelude.{ℕ}
 use Rattle.std.proofs.Props.{props}
 use Rattle.plan.specs.Costs.{Plan, IsCost, shut, IsByte, Obeys}
 
--- A byte is a cost or shut, and no cost is shut.
+-- That a byte is a cost or shut has one proof at most, since no cost is shut.
 pub IsByte-prop : (c : ℕ) → IsProp (IsByte c)
 IsByte-prop c (inl a) (inl b) = ap inl (one a b)
   where
@@ -19,5 +19,6 @@ IsByte-prop c (inr e) (inr f) = ap inr (one e f)
     one : IsProp (c ≡ shut)
     one = hlevel props
 
+-- So it is with the rules of a plan.
 pub Obeys-prop : (p : Plan) → IsProp (Obeys p)
 Obeys-prop p = hlevel (props, IsByte-prop)

@@ -7,7 +7,8 @@ use Rattle.drill_file.specs.File.{actions_from}
 use Rattle.lines.specs.Lines.{room}
 use Rattle.drill.specs.Promises.{Playing, Unprinted, NextPiece}
 
--- The count says how many bytes of the output are written, and nothing once a write has failed: one value in lent memory, which the function that writes moves on, so that no piece can be written again under an old count.
+-- The count says how many bytes of the output are written, and nothing once a write has failed: one value in lent memory, which the function that writes moves on,
+-- so that no piece can be written again under an old count.
 -- The first `used` bytes of the text are the next piece of the output of the file, which is the first `got` bytes of what was read; no write has failed.
 pub record Piece (input : List ℕ) (got : ℕ) (text : List ℕ) (used : ℕ) (count : Option ℕ) : Type 0 where
   pub read : got ≤ length input

@@ -6,38 +6,12 @@ use Prim.Native.Nat.{ℕ, ◌≤◌, ◌<◌}
 use native.Mathlib.Omega.{arith}
 use lib.ListN.{get_or, set, length}
 use lib.Seq.{get_or-set_same, get_or-set_other, set-get_or}
-use Rattle.queue.specs.Queue.{absent, most, is_place, members, Heap, Changed, Least, LeastOf}
+use Rattle.queue.specs.Queue.{absent, is_place, members, Heap, Changed, Least, LeastOf}
 use Rattle.queue.proofs.OrderLaws.{before_order}
 use Rattle.queue.proofs.MemberLaws.{missing, is_absent, length_members, member_at, member_place, set_same}
 use Rattle.queue.proofs.PlaceLaws.{counted}
 
 -- ---- heaps
-
--- Tables of absent values hold an empty queue.
-pub empty_heap : {width room : ℕ} {k1 k2 place list : List ℕ} → 0 < width → room ≤ most
-    → length k1 ≡ room → length k2 ≡ room → length place ≡ room → length list ≡ room
-    → ((c : ℕ) → c < room → (get_or k1 c 0 ≡ 0) × (get_or k2 c 0 ≡ 0)) → ((c : ℕ) → c < room → get_or place c 0 ≡ absent) → ((i : ℕ) → i < room → get_or list i 0 ≡ absent)
-    → Heap width room 0 k1 k2 place list
-empty_heap w s l1 l2 lp ll keys places lists = record {
-  tables = record {
-    wide = w;
-    length1 = l1;
-    length2 = l2;
-    agree = record {
-      small = s;
-      fits = omega arith;
-      length_place = lp;
-      length_list = ll;
-      named = λ i d. absurd (omega arith);
-      placed = λ i d. absurd (omega arith);
-      listed = λ c d g. absurd (omega arith);
-      gone = λ c d g. places c d;
-      unused = λ i g d. lists i d;
-    };
-  };
-  blank = λ c d o. keys c d;
-  ordered = record { holds = λ x y u d. absurd (omega arith) };
-}
 
 -- The same heap, its room and count by other names.
 pub heap_as : {width room count room' count' : ℕ} {k1 k2 place list : List ℕ} → Heap width room count k1 k2 place list → room ≡ room' → count ≡ count'

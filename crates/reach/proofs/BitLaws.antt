@@ -6,7 +6,7 @@ use mathlib.Core.List.{List, [], ◌∷◌, Memᴰ}
 use Prim.Native.Nat.{ℕ, zero, suc, ◌+◌, ◌*◌, ◌/◌, ◌%◌, ◌^◌, ◌≤◌, ◌<◌}
 use native.Mathlib.Nat.{pow-suc, div-one, mod-lt, suc-mul, zero-mul, add-suc, add-zero}
 use native.Mathlib.Decide.{ℕ_discrete}
-use native.Mathlib.Numerals.{one-add, add-one}
+use native.Mathlib.Numerals.{one-add}
 use native.Mathlib.Omega.{arith}
 use lib.Arith.{digits_div, digits_mod}
 use lib.Count.{ones, ones_step, ones-le}
@@ -81,11 +81,6 @@ pub sum_same : (f g : ℕ → ℕ) (n : ℕ) → ((i : ℕ) → i < n → f i �
 unfolding sum_to
 sum_same f g zero h = refl
 sum_same f g (suc n) h = omega (arith, sum_same f g n (λ i l. h i (omega arith)), h n (omega arith))
-
--- One place more.
-pub sum_next : (f : ℕ → ℕ) (n : ℕ) {sum : ℕ} → sum ≡ sum_to f n → sum + f n ≡ sum_to f (n + 1)
-unfolding sum_to
-sum_next f n e = rw (add-one n) (omega arith)
 
 -- One more at one place is one more of all.
 pub sum_more : (f g : ℕ → ℕ) (v n : ℕ) → v < n → g v ≡ f v + 1 → ((i : ℕ) → i ≢ v → g i ≡ f i) → sum_to g n ≡ sum_to f n + 1

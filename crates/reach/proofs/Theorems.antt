@@ -12,7 +12,8 @@ use lib.Seq.{ext_get_or}
 use Rattle.std.specs.Prelude.{Result, Ok, Err}
 use Rattle.decide.proofs.RuledLaws.{ruled_one, passed_one, passed_zero, onward}
 use Rattle.refusal.specs.declared.Refusal.{Refusal}
-use Rattle.refusal.proofs.NumberLaws.{refusal_of, refusal_is}
+use Rattle.refusal.specs.Numbers.{refusal_of}
+use Rattle.refusal.proofs.NumberLaws.{refusal_is}
 use Rattle.method.specs.Walk.{NoChain}
 use Rattle.plan.specs.Costs.{Plan, plan_of, cells, Obeys}
 use Rattle.plan.specs.Grid.{graph_of}

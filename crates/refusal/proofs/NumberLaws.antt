@@ -1,18 +1,12 @@
 -- A refusal's number gives the refusal back, and is not 0.
 use mathlib.Core.Path.{◌≡◌, refl}
-use mathlib.Core.List.{[], ◌∷◌}
-use Prim.Native.Nat.{ℕ, ◌-◌, ◌<◌}
+use Prim.Native.Nat.{◌<◌}
 use native.Mathlib.Omega.{arith}
-use lib.ListN.{get_or}
 use Rattle.refusal.specs.declared.Refusal.{Refusal}
 use Rattle.refusal.specs.declared.Refusal.TheVariants.{Size, Length, Cell, Move, Cost, Tables, Room, File, CutOff}
-use Rattle.refusal.specs.Numbers.{number_of}
+use Rattle.refusal.specs.Numbers.{number_of, refusal_of}
 
--- The refusal that has a number ..
-abbrev pub refusal_of : ℕ → Refusal
-refusal_of number = get_or (Size ∷ Length ∷ Cell ∷ Move ∷ Cost ∷ Tables ∷ Room ∷ File ∷ []) (number - 1) CutOff
-
--- .. is the one refused by it.
+-- The refusal that has a number is the one refused by it.
 pub refusal_is : (r : Refusal) → refusal_of (number_of r) ≡ r
 refusal_is Size = refl
 refusal_is Length = refl

@@ -1,5 +1,5 @@
 -- The numbers of document 01's refusals, and the number that the result of a check tells.
-use Rattle.std.specs.Prelude.{List, ℕ, ◌++◌, Result, Ok, Err, codes, decimal}
+use Rattle.std.specs.Prelude.{List, [], ◌∷◌, ◌++◌, ℕ, ◌-◌, get_or, Result, Ok, Err, codes, decimal}
 use Rattle.refusal.specs.declared.Refusal.{Refusal}
 use Rattle.refusal.specs.declared.Refusal.TheVariants.{Size, Length, Cell, Move, Cost, Tables, Room, File, CutOff}
 
@@ -14,6 +14,10 @@ number_of Tables = 6
 number_of Room = 7
 number_of File = 8
 number_of CutOff = 9
+
+-- The refusal that has a number.
+abbrev pub refusal_of : ℕ → Refusal
+refusal_of number = get_or (Size ∷ Length ∷ Cell ∷ Move ∷ Cost ∷ Tables ∷ Room ∷ File ∷ []) (number - 1) CutOff
 
 -- The number by which a call is refused, 0 where it is not.
 abbrev pub number_in : {A : Type 0} → Result A Refusal → ℕ

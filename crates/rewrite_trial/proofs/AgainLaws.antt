@@ -16,7 +16,8 @@ use Rattle.drill_file.proofs.FileLaws.{trailer_there}
 use Rattle.drill_file.proofs.NumberLaws.{formed, form_refused, file_formed}
 use Rattle.drill_writer.specs.Drill.{action_bytes_in}
 use Rattle.drill_writer.specs.Promise.{Writes}
-use Rattle.drill_writer.proofs.Theorems.{write_refused, rewrite_number, rewrites}
+use Rattle.drill_writer.proofs.Theorems.{write_exactly, rewrite_number, rewrites}
+use Rattle.drill_writer.proofs.WriteLaws.{refusal_told}
 use Rattle.rewrite_trial.specs.Again.{Again}
 
 -- A badly formed file is refused by the form's number.
@@ -62,7 +63,7 @@ module _ (file : List ℕ) {t : Trailer} (read : t ≡ trailer_in file) (right :
         let number = rewrite_number file right l own_parts.rules in
         record {
           taken = λ z. rewrites file octets z l own_parts;
-          refused = λ n. let d = write_refused own_parts own_parts.rules (λ z. n (sym number ∙ z)) in (d.0 ∙ number, d.1);
+          refused = λ n. (sym (refusal_told r) ∙ (write_exactly own_parts own_parts.number).1 own_parts.rules ∙ number, own_parts.refused (λ z. n (sym number ∙ z)));
         }
 
 -- What was written stands in the room.

@@ -218,9 +218,7 @@ one_measuring {r = r} {r' = r'} P Q = at (ℕ_discrete r.refusal 0)
 module _ {width height hunter target : ℕ} {plan actions file file' : List ℕ} {r : Written} (P : WritingTold (λ x. Writes width height hunter target plan actions file x file') r) where
   -- Where k is the number of the first rule broken, the reply carries k and nothing else, and nothing has changed;
   pub write_refused : {k : ℕ} → WriteRules width height hunter target plan actions (length file) k → k ≢ 0 → (r ≡ written_of (record { refusal = k; bytes = 0 })) × (file' ≡ file)
-  write_refused rules n =
-      let d = writer.write_refused P.promised rules n in
-      (P.told ∙ ap written_of (refused_told P.called d.0 n), d.1)
+  write_refused {k} rules n = (P.told ∙ ap written_of (refused_told P.called ((write_exactly P.promised k).1 rules) n), (writer.write_refused P.promised rules n).1)
 
   -- the number told is k exactly if k is the number of the first rule broken, and 0 exactly if none is.
   pub write_told_exactly : (k : ℕ) → (r.refusal ≡ k) ↔ WriteRules width height hunter target plan actions (length file) k

@@ -5,8 +5,8 @@ use Prim.Native.Nat.{ℕ, zero, suc, ◌<◌}
 use native.Mathlib.Omega.{arith}
 use Rattle.std.specs.Prelude.{Result, Ok, Err}
 use Rattle.refusal.specs.declared.Refusal.{Refusal}
-use Rattle.refusal.specs.Numbers.{number_of, number_in}
-use Rattle.refusal.proofs.NumberLaws.{refusal_of, refusal_is, numbered}
+use Rattle.refusal.specs.Numbers.{number_of, number_in, refusal_of}
+use Rattle.refusal.proofs.NumberLaws.{refusal_is, numbered}
 use Rattle.decide.specs.Ruled.{holds, Passed}
 use Rattle.decide.proofs.RuledLaws.{passed_one, ruled_one, granted, passed_zero, onward, further, passed_not}
 use Rattle.plan.specs.Cells.{Size}

@@ -18,7 +18,7 @@ use Rattle.plan.specs.Grid.{out_by, into_by, up_to}
 use Rattle.plan.proofs.CellLaws.{enters}
 use Rattle.through.specs.Through.{Askable, through_told, Passes, LeastCost, cost_in}
 use Rattle.through.proofs.FreshLaws.{rhs_fresh, least_fresh}
-use Rattle.through.proofs.ThroughLaws.{through_granted, least_sum, none_on}
+use Rattle.through.proofs.ThroughLaws.{through_granted, least_through, none_on}
 use Rattle.through.proofs.Theorems.{through_number, least_walk, no_walk}
 
 -- ---- by the two least costs
@@ -38,7 +38,7 @@ module _ {width height hunter target : ℕ} {plan : List ℕ} {cell direction : 
   sums_up a b =
       let z = asked.obeys.size in
       (least_walk P asked _).1
-      (least_sum asked.obeys asked.small asked.stays_in asked.opens
+      (least_through asked.obeys asked.small asked.stays_in asked.opens
       (subst (LeastCost (plan_of width height plan) hunter cell) a (least_fresh (plan_of width height plan) z asked.hunter_in asked.cell_in))
       (subst (LeastCost (plan_of width height plan) (entered width cell direction) target) b
       (least_fresh (plan_of width height plan) z (enters z.wide asked.stays_in).inside asked.target_in)))

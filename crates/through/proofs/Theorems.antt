@@ -7,7 +7,8 @@ use native.Mathlib.Omega.{arith}
 use native.Mathlib.Decide.{ℕ_discrete}
 use Rattle.std.specs.Prelude.{Option, Some, None, Result, Ok, Err}
 use Rattle.refusal.specs.declared.Refusal.{Refusal}
-use Rattle.refusal.proofs.NumberLaws.{refusal_of, refusal_is}
+use Rattle.refusal.specs.Numbers.{refusal_of}
+use Rattle.refusal.proofs.NumberLaws.{refusal_is}
 use Rattle.plan.specs.Cells.{entered}
 use Rattle.plan.specs.Costs.{Plan, plan_of}
 use Rattle.through.specs.Through.{LeastThrough, NoneThrough, Askable, ThroughRules, ThroughTold, through_told, Answers, Passes}

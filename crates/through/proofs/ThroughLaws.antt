@@ -84,8 +84,8 @@ module _ {p : Plan} (O : Obeys p) {u d : ℕ} (small : d < 4) (S : Stays p.width
   cost_is i = let q = open_leads p O.size.wide i in q.2 ∙ ap (byte p u) (one_direction O.size.wide q.1 leads)
 
   -- The least cost through the move is the least cost to it, its own, and the least cost on from it ..
-  pub least_sum : {h t x y : ℕ} → LeastCost p h u (Some x) → LeastCost p (entered p.width u d) t (Some y) → LeastThrough p h t u (entered p.width u d) (x + byte p u d + y)
-  least_sum (costs _ A) (costs _ B) = record {
+  pub least_through : {h t x y : ℕ} → LeastCost p h u (Some x) → LeastCost p (entered p.width u d) t (Some y) → LeastThrough p h t u (entered p.width u d) (x + byte p u d + y)
+  least_through (costs _ A) (costs _ B) = record {
     over = _;
     leads = joined A.leads moves B.leads;
     uses = uses_joined A.leads B.leads;

@@ -68,7 +68,7 @@ fn least_cost(floor: Floor, from: usize, to: usize) -> Option<u32>
 
 // The least cost of any walk from hunter to target through a move that can be asked about: there, the move, and on from it.
 #[tactic(auto, using(crate::proofs::ThroughLaws::adding))]
-fn least_through(
+fn cost_through(
     floor: Floor,
     hunter: usize,
     target: usize,
@@ -137,5 +137,5 @@ pub fn through(
         height,
         plan,
     };
-    Ok(least_through(floor, hunter, target, cell, direction))
+    Ok(cost_through(floor, hunter, target, cell, direction))
 }

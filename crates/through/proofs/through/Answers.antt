@@ -6,5 +6,5 @@ use Rattle.through.proofs.through.Goals as goal
 pub invariant_of-floor : goal.invariant_of-floor
 invariant_of-floor c = record { obeys = (through_granted _ c.in_ok-check.ensures refl).obeys }
 
-pub least_through-requires : goal.least_through-requires
-least_through-requires c = through_granted _ c.in_ok-check.ensures refl
+pub cost_through-requires : goal.cost_through-requires
+cost_through-requires c = through_granted _ c.in_ok-check.ensures refl
