@@ -5,15 +5,12 @@
 use along;
 use drill_file;
 use drill_file::Trailer;
+use drill_input;
 use failure;
-use input;
 use question;
 use question::Question;
 use reach;
-use std::env::Env;
-use std::io::{Error, Read};
-use std::rt::Files;
-use std::{fs, io, str};
+use std::io;
 use through;
 
 // The names of the directions, in their order.
@@ -112,54 +109,14 @@ fn explain(rt: &impl Print, file: &[u8], question: Question, cells: &[u16]) -> i
     }
 }
 
-// Reads a drill file, of which 65,537 bytes tell that it is too long, and answers.
-fn explain_input<R: Print + Eprint, I: Read>(
-    rt: &R,
-    reader: &mut I,
-    name: &str,
-    question: Question,
-    cells: &[u16],
-) {
+// Answers a question about the drill file that the first word names, of which 65,537 bytes tell that it is too long.
+fn explain_file(rt: &HostRuntime, question: Question, cells: &[u16]) {
     let mut input = [0u8; 65537];
-    match input::read_whole(reader, &mut input) {
-        Ok(got) => {
-            if let Err(why) = explain(rt, &input[0..got], question, cells) {
-                failure::tell(rt, "write", why);
-            }
-        }
-        Err(why) => failure::tell(rt, name, why),
-    }
-}
-// Answers a question about the drill file of that name.
-fn explain_named<R: Print + Eprint + Files>(rt: &R, name: &str, question: Question, cells: &[u16]) {
-    match fs::open(rt, name) {
-        Ok(mut file) => explain_input(rt, &mut file, name, question, cells),
-        Err(why) => failure::tell(rt, name, why),
-    }
-}
-
-// Answers a question about the drill file that the word names. The names that std takes are text.
-fn explain_word<R: Print + Eprint + Files>(rt: &R, word: &[u8], question: Question, cells: &[u16]) {
-    match str::from_utf8(word) {
-        Ok(name) => explain_named(rt, name, question, cells),
-        Err(_) => failure::tell(
-            rt,
-            "the file's name",
-            Error::from_raw_os_error(failure::NO_TEXT),
-        ),
-    }
-}
-
-// Answers a question about the drill file that the first word names.
-fn explain_first<R: Print + Eprint + Files + Env>(rt: &R, question: Question, cells: &[u16]) {
-    let mut word = [0u8; 4096];
-    match rt.arg(1, &mut word) {
-        Ok(length) => explain_word(rt, &word[..length], question, cells),
-        Err(_) => failure::tell(
-            rt,
-            "the file's name",
-            Error::from_raw_os_error(failure::NAME_TOO_LONG),
-        ),
+    let Some(got) = drill_input::read(rt, &mut input) else {
+        return;
+    };
+    if let Err(why) = explain(rt, &input[0..got], question, cells) {
+        failure::tell(rt, "write", why);
     }
 }
 
@@ -167,7 +124,7 @@ fn explain_first<R: Print + Eprint + Files + Env>(rt: &R, question: Question, ce
 fn main(rt: HostRuntime) {
     let mut cells = [0u16; question::ROOM];
     match question::hear(&rt, &mut cells) {
-        Some(question) => explain_first(&rt, question, &cells),
+        Some(question) => explain_file(&rt, question, &cells),
         None => {
             let _ = eprintln!(rt;
                 "usage: explain DRILL [along CELL.. | through CELL north|east|south|west]"

@@ -10,16 +10,11 @@ ghost use Rattle.runner.specs.Own.{Own, Running};
 
 use drill_file;
 use drill_file::Trailer;
-use failure;
-use input;
+use drill_input;
 use opening;
 use plan::SHUT;
 use printing;
 use queue::ABSENT;
-use std::env::{Env, FillError};
-use std::io::{Error, Read};
-use std::rt::Files;
-use std::{fs, str};
 use tables::{Ahead, INFINITE};
 use text::Text;
 
@@ -113,16 +108,10 @@ fn run_file<R: Print + Eprint>(
     );
 }
 
-// Reads a drill file, of which 65,537 bytes tell that it is too long, and runs it.
-fn run_input<R: Print + Eprint, I: Read>(rt: &R, reader: &mut I, name: &str) {
-    let mut input = [0u8; 65537];
-    let got = match input::read_whole(reader, &mut input) {
-        Ok(got) => got,
-        Err(why) => {
-            failure::tell(rt, name, why);
-            return;
-        }
-    };
+// Runs the file, the first `got` bytes of the input, on tables of its own.
+fn run_input<R: Print + Eprint>(rt: &R, input: &[u8], got: usize)
+    requires { got ≤ length input.now }
+{
     let mut count = Some(0);
     let mut plan = [SHUT; 16384];
     let mut g = [INFINITE; 4096];
@@ -140,7 +129,7 @@ fn run_input<R: Print + Eprint, I: Read>(rt: &R, reader: &mut I, name: &str) {
     };
     run_file(
         rt,
-        &input,
+        input,
         got,
         &mut count,
         &mut plan,
@@ -156,36 +145,10 @@ fn run_input<R: Print + Eprint, I: Read>(rt: &R, reader: &mut I, name: &str) {
     );
 }
 
-// Runs the file of that name.
-fn run_named<R: Print + Eprint + Files>(rt: &R, name: &str) {
-    match fs::open(rt, name) {
-        Ok(mut file) => run_input(rt, &mut file, name),
-        Err(why) => failure::tell(rt, name, why),
-    }
-}
-
-// Runs the file that the word names. The names that std takes are text.
-fn run_word<R: Print + Eprint + Files>(rt: &R, word: &[u8]) {
-    match str::from_utf8(word) {
-        Ok(name) => run_named(rt, name),
-        Err(_) => failure::tell(
-            rt,
-            "the file's name",
-            Error::from_raw_os_error(failure::NO_TEXT),
-        ),
-    }
-}
-
-// The file named by the first argument, or standard input where there is none.
+// The file named by the first argument, or standard input where there is none; 65,537 bytes tell that it is too long.
 fn main(rt: HostRuntime) {
-    let mut word = [0u8; 4096];
-    match rt.arg(1, &mut word) {
-        Ok(length) => run_word(&rt, &word[..length]),
-        Err(FillError::NotPresent) => run_input(&rt, &mut rt.stdin(), "standard input"),
-        Err(FillError::TooLong) => failure::tell(
-            &rt,
-            "the file's name",
-            Error::from_raw_os_error(failure::NAME_TOO_LONG),
-        ),
+    let mut input = [0u8; 65537];
+    if let Some(got) = drill_input::read(&rt, &mut input) {
+        run_input(&rt, &input, got);
     }
 }

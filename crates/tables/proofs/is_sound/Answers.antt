@@ -1,5 +1,4 @@
 -- Yes or no is read off the first place at fault.
-use native.Mathlib.Omega.{arith}
 use Rattle.tables.specs.Asked.{Words}
 use Rattle.tables.proofs.FaultLaws.{sound_if_none}
 use Rattle.tables.proofs.is_sound.Goals as goal
