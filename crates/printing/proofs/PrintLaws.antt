@@ -31,11 +31,8 @@ sum_fits {text = text} {used = used} P e = omega (arith, ap number (sym e ∙ P.
 
 -- No write has failed where a piece is the next: after one (a write that failed), no piece is the next.
 pub none_after_failure : {input : List ℕ} {got : ℕ} {text : List ℕ} {used : ℕ} {count : Option ℕ} (P : Piece input got text used count) → count ≡ None → ⊥
-none_after_failure P e = differ (sym e ∙ P.counted)
+none_after_failure P e = omega (arith, ap is (sym e ∙ P.counted))
   where
-    differ : {n : ℕ} → None ≡ Some n → ⊥
-    differ q = absurd (omega (arith, ap is q))
-
     is : Option ℕ → ℕ
     is (Some n) = 1
     is None = 0
