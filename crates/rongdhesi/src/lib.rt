@@ -169,10 +169,7 @@ fn search_told(called: Outcome) -> Reply
 fn byte_of(cost: usize) -> u8
     ensures { result ≡ byte_of cost }
 {
-    if 255 < cost {
-        return 0;
-    }
-    cost as u8
+    u8::try_from(cost).unwrap_or(0)
 }
 
 // The lengths of the tables for a size.
@@ -182,7 +179,7 @@ pub extern "C" fn rongdhesi_lengths(width: usize, height: usize) -> Lengths
 {
     if !plan::is_size(width, height) {
         return Lengths {
-            refusal: 1,
+            refusal: number(Refusal::Size),
             plan: 0,
             cells: 0,
         };

@@ -6,7 +6,8 @@ use Rattle.decide.specs.Ruled.{fails, holds, passed}
 use Rattle.rongdhesi.proofs.rongdhesi_lengths.Goals as goal
 
 pub returns-then-not-is_size : goal.returns-then-not-is_size
-returns-then-not-is_size c = record { rules = fails (refuted c.is_size.ensures c.if-not-is_size.true); refused = λ _. (refl, refl); done = λ z. absurd (omega (arith, z)) }
+returns-then-not-is_size c =
+    record { rules = rw c.number.ensures (fails (refuted c.is_size.ensures c.if-not-is_size.true)); refused = λ _. (refl, refl); done = λ z. absurd (omega (arith, z, c.number.ensures)) }
 
 pub returns : goal.returns
 returns c = record { rules = holds (c.is_size.ensures.so c.if-not-is_size.false) passed; refused = λ n. absurd (n refl); done = λ _. (refl, refl) }
