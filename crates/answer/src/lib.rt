@@ -7,7 +7,7 @@ ghost use Rattle.answer.specs.Answer.{told_by, Answering, Answers};
 use entries;
 use entries::Aim;
 use refusal::Refusal;
-use tables::{Ahead, INFINITE};
+use tables::INFINITE;
 
 // Caught at a cell; no way, after so many steps; or a way: its cost, the steps, and the number of its cells.
 #[derive(Clone, Copy)]
@@ -58,21 +58,22 @@ pub fn answered(
     a: Aim,
     ended: bool,
     steps: usize,
-    ahead: &Ahead,
+    rhs: &[u32],
+    parent: &[u8],
     way: &mut [u16],
 ) -> Result<Answer, Refusal>
-    requires { Answering a ahead.now.rhs.now ahead.now.parent.now way.old }
-    ensures { Answers a ended steps ahead.now.rhs.now ahead.now.parent.now way.old (told_by result way.new) way.new }
+    requires { Answering a rhs.now parent.now way.old }
+    ensures { Answers a ended steps rhs.now parent.now way.old (told_by result way.new) way.new }
 {
     if !ended {
         return Err(Refusal::CutOff);
     }
-    let far = ahead.rhs[a.target];
+    let far = rhs[a.target];
     if far == INFINITE {
         return Ok(Answer::NoWay(steps));
     }
-    let near = ahead.rhs[a.hunter];
-    let cells = write_way(a, &ahead.parent, way);
+    let near = rhs[a.hunter];
+    let cells = write_way(a, parent, way);
     Ok(Answer::Way {
         cost: far - near,
         steps,

@@ -2,10 +2,12 @@
 #![tactic(auto)]
 
 ghost use Rattle.std.specs.Prelude.{◌+◌};
+ghost use Rattle.decide.specs.Ruled.{Passed};
 ghost use Rattle.refusal.specs.Numbers.{number_in};
 ghost use Rattle.plan.specs.Cells.{Size};
 ghost use Rattle.tables.specs.Lent.{lent, SameTables};
 ghost use Rattle.tables.specs.Sound.{Sound};
+ghost use Rattle.session.specs.Refusals.{TableRules};
 ghost use Rattle.change.specs.Refusals.{MoveRules, Workable};
 ghost use Rattle.change.specs.Effects.{Deciding, Asks};
 ghost use Rattle.change.specs.Promise.{WorkedIn, Changes};
@@ -133,6 +135,23 @@ pub fn change_sound(
     }
 }
 
+// Are the tables of the session of its size, and sound?
+fn check_tables(s: Session, plan: &[u8], g: &[u32], ahead: &Ahead) -> Result<(), Refusal>
+    ensures { TableRules s (lent plan.now g.now ahead.now) Passed (number_in result) }
+{
+    session::check_tables(
+        s,
+        plan,
+        g,
+        &ahead.rhs,
+        &ahead.parent,
+        &ahead.k1,
+        &ahead.k2,
+        &ahead.place,
+        &ahead.list,
+    )
+}
+
 // Changes a move: gives cell u's move in direction d a cost, and works that in.
 #[tactic(auto, using(crate::proofs::RefusalLaws::refusing))]
 pub fn change_move(
@@ -147,7 +166,7 @@ pub fn change_move(
     ensures changes { Changes s (lent plan.old g.now ahead.old) u d cost result (lent plan.new g.now ahead.new) }
     ensures same_tables { SameTables ahead.old ahead.new }
 {
-    match session::check_tables(s, plan, g, ahead) {
+    match check_tables(s, plan, g, ahead) {
         Ok(()) => change_sound(s, plan, g, ahead, u, d, cost),
         Err(refusal) => Reply {
             session: s,

@@ -3,7 +3,7 @@
 
 ghost use Rattle.std.specs.Prelude.{◌≡◌, ltb};
 ghost use Rattle.method.specs.Tables.{key_number, stored_key, calculated_key};
-ghost use Rattle.tables.specs.Lent.{lent, core};
+ghost use Rattle.tables.specs.Lent.{tables, core};
 ghost use Rattle.entries.specs.Aims.{hunt};
 ghost use Rattle.choices.specs.Moves.{Relaxing, Relaxes, Renewing, Renews, Numbers, Keyed};
 ghost use Rattle.choices.specs.Next.{Choosing, Chosen};
@@ -12,12 +12,11 @@ use entries;
 use entries::{Aim, Asked, Found};
 use plan::{Floor, Spot};
 use queue;
-use tables::Ahead;
 
 // What an open move from u asks in "lower" of the cell that it enters, where v is the new g of u: to take a smaller sum.
-pub fn relaxation(a: Aim, plan: &[u8], ahead: &Ahead, v: u32, u: usize, d: usize) -> Option<Asked>
-    requires { Relaxing a plan.now ahead.now.rhs.now v u d }
-    ensures { Relaxes a plan.now ahead.now.rhs.now v u d result }
+pub fn relaxation(a: Aim, plan: &[u8], rhs: &[u32], v: u32, u: usize, d: usize) -> Option<Asked>
+    requires { Relaxing a plan.now rhs.now v u d }
+    ensures { Relaxes a plan.now rhs.now v u d result }
 {
     let floor = Floor {
         width: a.width,
@@ -29,7 +28,7 @@ pub fn relaxation(a: Aim, plan: &[u8], ahead: &Ahead, v: u32, u: usize, d: usize
         return None;
     }
     let sum = v + reach.cost as u32;
-    if ahead.rhs[reach.cell] <= sum {
+    if rhs[reach.cell] <= sum {
         return None;
     }
     Some(Asked {
@@ -46,12 +45,12 @@ pub fn finding_anew(
     a: Aim,
     plan: &[u8],
     g: &[u32],
-    ahead: &Ahead,
+    parent: &[u8],
     u: usize,
     d: usize,
 ) -> Option<Asked>
-    requires { Renewing a plan.now g.now ahead.now.parent.now u d }
-    ensures { Renews a plan.now g.now ahead.now.parent.now u d result }
+    requires { Renewing a plan.now g.now parent.now u d }
+    ensures { Renews a plan.now g.now parent.now u d result }
 {
     let floor = Floor {
         width: a.width,
@@ -62,7 +61,7 @@ pub fn finding_anew(
     if reach.cell == a.hunter {
         return None;
     }
-    if ahead.parent[reach.cell] != reach.code {
+    if parent[reach.cell] != reach.code {
         return None;
     }
     Some(Asked {
@@ -79,29 +78,36 @@ fn key(first: u32, second: u32) -> u64
 }
 
 // Is the stored key of a queued cell below its calculated key?
-pub fn stale(a: Aim, g: &[u32], ahead: &Ahead, u: usize, at: Spot) -> bool
-    requires { Keyed a u at g.now ahead.now.rhs.now ahead.now.k1.now ahead.now.k2.now }
-    ensures { (plan : Numbers) → result ≡ ltb (stored_key (core (lent plan g.now ahead.now)) u) (calculated_key (hunt a plan) (core (lent plan g.now ahead.now)) u) }
+pub fn stale(a: Aim, g: &[u32], rhs: &[u32], k1: &[u32], k2: &[u32], u: usize, at: Spot) -> bool
+    requires { Keyed a u at g.now rhs.now k1.now k2.now }
+    ensures { (plan parent place list : Numbers) → result ≡ ltb (stored_key (core (tables plan g.now rhs.now parent k1.now k2.now place list)) u) (calculated_key (hunt a plan) (core (tables plan g.now rhs.now parent k1.now k2.now place list)) u) }
 {
-    let m = g[u].min(ahead.rhs[u]);
+    let m = g[u].min(rhs[u]);
     let first = entries::first_key(a, m, at);
-    key(ahead.k1[u], ahead.k2[u]) < key(first, m)
+    key(k1[u], k2[u]) < key(first, m)
 }
 
 // The least queued cell, while the least stored key is below the target's calculated key or rhs of the target is above its g.
-pub fn chosen(a: Aim, g: &[u32], ahead: &Ahead, count: usize) -> Option<usize>
-    requires { Choosing a count g.now ahead.now }
-    ensures { Chosen a g.now ahead.now result }
+pub fn chosen(
+    a: Aim,
+    g: &[u32],
+    rhs: &[u32],
+    k1: &[u32],
+    k2: &[u32],
+    place: &[u16],
+    list: &[u16],
+    count: usize,
+) -> Option<usize>
+    requires { Choosing a count g.now rhs.now k1.now k2.now place.now list.now }
+    ensures { Chosen a g.now rhs.now k1.now k2.now place.now result }
 {
     if count == 0 {
         return None;
     }
-    let list = &*ahead.list;
-    let k2 = &*ahead.k2;
     let u = queue::least(list);
-    let least = key(ahead.k1[u], k2[u]);
+    let least = key(k1[u], k2[u]);
     let x = g[a.target];
-    let y = ahead.rhs[a.target];
+    let y = rhs[a.target];
     if x < y || least < key(y.saturating_add(a.km), y) {
         return Some(u);
     }

@@ -35,7 +35,7 @@ fn put_reply(reply: Reply, text: &mut Text) -> Session
     ensures same_room { text.new.room.ghost_name ≡ text.old.room.ghost_name }
 {
     if let Err(refusal) = reply.answer {
-        lines::put_refusal(refusal, text);
+        lines::put_refusal(u8::from(refusal), text);
     }
     reply.session
 }

@@ -8,7 +8,7 @@ use Rattle.plan.specs.Cells.{Size}
 use Rattle.plan.specs.Reached.{At}
 use Rattle.plan.specs.declared.Spot.{Spot}
 use Rattle.tables.specs.declared.Ahead.{Ahead}
-use Rattle.tables.specs.Lent.{Tables, lent, core}
+use Rattle.tables.specs.Lent.{Tables, tables, lent, core}
 use Rattle.entries.specs.declared.Aim.{Aim}
 use Rattle.entries.specs.declared.Found.{Found}
 use Rattle.entries.specs.declared.Asked.{Asked}
@@ -43,8 +43,14 @@ pub record Entering (a : Aim) (count cell : ℕ) (at : Spot) (g rhs k1 k2 place 
 abbrev pub EnteringIn : Aim → ℕ → ℕ → Spot → List ℕ → Ahead → Type 0
 EnteringIn a count cell at g t = Entering a count cell at g t.rhs.now t.k1.now t.k2.now t.place.now t.list.now
 
--- It was set right, whatever the plan is; rhs and the parents stay.
-pub record Entered (a : Aim) (cell : ℕ) (g : List ℕ) (t : Ahead) (count : ℕ) (t' : Ahead) : Type 0 where
+-- It was set right, whatever the plan and the parents are.
+abbrev pub Entered : Aim → ℕ → List ℕ → List ℕ → List ℕ → List ℕ → List ℕ → List ℕ → ℕ → List ℕ → List ℕ → List ℕ → List ℕ → Type 0
+Entered a cell g rhs k1 k2 place list count k1' k2' place' list' =
+    (plan parent : List ℕ) → Became a count (tables plan g rhs parent k1' k2' place' list')
+    (method.set_right (hunt a plan) (core (tables plan g rhs parent k1 k2 place list)) cell)
+
+-- It was set right in the tables ahead of g, whatever the plan is; rhs and the parents stay.
+pub record EnteredIn (a : Aim) (cell : ℕ) (g : List ℕ) (t : Ahead) (count : ℕ) (t' : Ahead) : Type 0 where
   pub became : (plan : List ℕ) → Became a count (lent plan g t') (method.set_right (hunt a plan) (core (lent plan g t)) cell)
   pub rhs_is : t'.rhs.now ≡ t.rhs.now
   pub parent_is : t'.parent.now ≡ t.parent.now

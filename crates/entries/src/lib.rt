@@ -5,13 +5,14 @@ ghost use Rattle.std.specs.Prelude.{◌≡◌, ◌+◌, ◌<◌, ◌≤◌, get_
 ghost use Rattle.method.specs.Numbers.{infinite};
 ghost use Rattle.method.specs.Tables.{least_over, anew as anew_of, found_anew};
 ghost use Rattle.method.specs.Session.{fresh as fresh_of};
+ghost use Rattle.queue.specs.Queue.{EntryKept};
 ghost use Rattle.plan.specs.Floors.{floor_plan};
 ghost use Rattle.plan.specs.Grid.{into_by};
 ghost use Rattle.plan.specs.Reached.{Placed, between};
 ghost use Rattle.tables.specs.Lent.{lent, SameTables, frame, frame_of_size, Fits, graph_in, core};
 ghost use Rattle.entries.specs.Aims.{area, frame_of, hunt, AimOf, Aimed, most_rhs, Findable, ReadyAt};
 ghost use Rattle.entries.specs.Begin.{Openable, placed_on, begun, Opened};
-ghost use Rattle.entries.specs.Became.{Became, EnteringIn, Entered, KeptIn, Taking, Taken, found_of};
+ghost use Rattle.entries.specs.Became.{Became, Entering, Entered, EnteringIn, EnteredIn, KeptIn, Taking, Taken, found_of};
 ghost use Rattle.entries.specs.Parents.{Named, Linked};
 
 use plan;
@@ -57,21 +58,31 @@ pub fn first_key(a: Aim, m: u32, at: Spot) -> u32
 }
 
 // The entry of a cell set right: queued under the calculated key if g and rhs differ, else absent. Returns the queue's count.
-pub fn set_right(a: Aim, g: &[u32], ahead: &mut Ahead, count: usize, cell: usize, at: Spot) -> usize
-    requires { EnteringIn a count cell at g.now ahead.old }
-    ensures entered { Entered a cell g.now ahead.old result ahead.new }
-    ensures entry_kept { KeptIn count ahead.old result ahead.new }
-    ensures same_tables { SameTables ahead.old ahead.new }
+pub fn set_right(
+    a: Aim,
+    g: &[u32],
+    rhs: &[u32],
+    k1: &mut [u32],
+    k2: &mut [u32],
+    place: &mut [u16],
+    list: &mut [u16],
+    count: usize,
+    cell: usize,
+    at: Spot,
+) -> usize
+    requires { Entering a count cell at g.now rhs.now k1.old k2.old place.old list.old }
+    ensures entered { Entered a cell g.now rhs.now k1.old k2.old place.old list.old result k1.new k2.new place.new list.new }
+    ensures entry_kept { EntryKept count k1.old k2.old place.old list.old result k1.new k2.new place.new list.new }
 {
     let x = g[cell];
-    let y = ahead.rhs[cell];
-    let i = ahead.place[cell];
+    let y = rhs[cell];
+    let i = place[cell];
     let mut queue = Queue {
         width: a.width,
-        k1: &mut *ahead.k1,
-        k2: &mut *ahead.k2,
-        place: &mut *ahead.place,
-        list: &mut *ahead.list,
+        k1,
+        k2,
+        place,
+        list,
         count,
     };
     if x == y {
@@ -89,6 +100,34 @@ pub fn set_right(a: Aim, g: &[u32], ahead: &mut Ahead, count: usize, cell: usize
     }
     queue.put_under(cell, first, m);
     queue.count
+}
+
+// The same in the tables ahead of g. Of these rhs is lent as those that are written, since the check has no rule for one field lent to be read beside others.
+pub fn set_right_ahead(
+    a: Aim,
+    g: &[u32],
+    ahead: &mut Ahead,
+    count: usize,
+    cell: usize,
+    at: Spot,
+) -> usize
+    requires { EnteringIn a count cell at g.now ahead.old }
+    ensures entered { EnteredIn a cell g.now ahead.old result ahead.new }
+    ensures entry_kept { KeptIn count ahead.old result ahead.new }
+    ensures same_tables { SameTables ahead.old ahead.new }
+{
+    set_right(
+        a,
+        g,
+        &mut *ahead.rhs,
+        &mut *ahead.k1,
+        &mut *ahead.k2,
+        &mut *ahead.place,
+        &mut *ahead.list,
+        count,
+        cell,
+        at,
+    )
 }
 
 // A sum, and the parent byte of the move that gives it.
@@ -122,7 +161,7 @@ pub fn take(
 {
     ahead.rhs[cell] = f.rhs;
     ahead.parent[cell] = f.parent;
-    set_right(a, g, ahead, count, cell, at)
+    set_right_ahead(a, g, ahead, count, cell, at)
 }
 
 // One more neighbour is looked at: its move is taken if it gives a smaller sum.
@@ -200,7 +239,7 @@ fn fresh(a: Aim, plan: &[u8], g: &mut [u32], ahead: &mut Ahead) -> usize
     let hunter = a.hunter;
     ahead.rhs[hunter] = 0;
     let at = plan::spot_of(a.width, hunter);
-    set_right(a, g, ahead, 0, hunter, at)
+    set_right_ahead(a, g, ahead, 0, hunter, at)
 }
 
 // The record of a session on a plan of this size with both cells placed, before its tables are filled.

@@ -2,7 +2,6 @@
 #![tactic(auto)]
 
 ghost use Rattle.std.specs.Prelude.{◌≡◌, ◌+◌, ◌*◌, ◌≤◌, ◌++◌, length, take, Ok};
-ghost use Rattle.refusal.specs.Numbers.{number_of};
 ghost use Rattle.answer.specs.Answer.{count_of};
 ghost use Rattle.answer.specs.declared.Answer.TheVariants.{Way};
 ghost use Rattle.text.specs.Text.{bytes, decimal};
@@ -53,14 +52,14 @@ fn put_way(cost: u32, steps: usize, cells: &[u16], text: &mut Text)
     text.put_word(b"\n");
 }
 
-// Puts the line of a refusal.
+// Puts the line of a refusal, whatever its number.
 #[tactic(auto, unfolding(text::specs::Text::bytes))]
-pub fn put_refusal(refusal: Refusal, text: &mut Text)
+pub fn put_refusal(number: u8, text: &mut Text)
     requires { text.old.used + room 0 ≤ length text.old.room.now }
-    ensures put { PutIn text.old (refused_line (number_of refusal)) text.new }
+    ensures put { PutIn text.old (refused_line number) text.new }
     ensures same_room { text.new.room.ghost_name ≡ text.old.room.ghost_name }
 {
-    put_labelled(b"refused ", u64::from(u8::from(refusal)), text);
+    put_labelled(b"refused ", u64::from(number), text);
 }
 
 // Puts the line of a search's answer; the way list has its cells.
@@ -74,6 +73,6 @@ pub fn put_answer(answer: Result<Answer, Refusal>, way: &[u16], text: &mut Text)
         Ok(Answer::Caught(cell)) => put_labelled(b"caught at ", cell as u64, text),
         Ok(Answer::NoWay(steps)) => put_labelled(b"none steps ", steps as u64, text),
         Ok(Answer::Way { cost, steps, cells }) => put_way(cost, steps, &way[..cells], text),
-        Err(refusal) => put_refusal(refusal, text),
+        Err(refusal) => put_refusal(u8::from(refusal), text),
     }
 }

@@ -34,7 +34,12 @@ fn check_file(file: &[u8], t: Trailer, plan: &[u8], g: &[u32], ahead: &Ahead) ->
         t.target,
         &file[..plan.len()],
         g,
-        ahead,
+        &ahead.rhs,
+        &ahead.parent,
+        &ahead.k1,
+        &ahead.k2,
+        &ahead.place,
+        &ahead.list,
     )
 }
 
@@ -45,7 +50,7 @@ fn refuse(refusal: Refusal, text: &mut Text) -> Played
     ensures refuses { Refuses (number_of refusal) text.old.room.now result text.new.room.now text.new.used }
     ensures same_room { text.new.room.ghost_name ≡ text.old.room.ghost_name }
 {
-    lines::put_refusal(refusal, text);
+    lines::put_refusal(u8::from(refusal), text);
     Played {
         session: entries::placed_on(0, 0, 0, 0),
         at: 0,

@@ -27,27 +27,43 @@ fn write_piece<R: Print + Eprint>(
     rt: &R,
     input: &[u8],
     got: usize,
-    text: &Text,
+    text: &[u8],
+    used: usize,
     left: usize,
     count: &mut Option<usize>,
 ) -> usize
-    requires { Piece input.now got text.now.room.now text.now.used count.old }
-    ensures { Moves result left 0 text.now.used count.old count.new }
+    requires { Piece input.now got text.now used count.old }
+    ensures { Moves result left 0 used count.old count.new }
 {
-    let room = &*text.room;
-    if let Err(why) = rt.write_all(&room[..text.used]) {
+    if let Err(why) = rt.write_all(&text[..used]) {
         failure::tell(rt, "write", why);
         *count = None;
         return 0;
     }
     if let Some(written) = count {
-        *written += text.used;
+        *written += used;
     }
     left
 }
 
 // Prints the line of a file refused, or the lines of the actions played. How many actions are then left to play?
 pub fn print<R: Print + Eprint>(
+    rt: &R,
+    input: &[u8],
+    got: usize,
+    text: &[u8],
+    used: usize,
+    played: Played,
+    count: &mut Option<usize>,
+) -> usize
+    requires { Piece input.now got text.now used count.old }
+    ensures { Moves result played.left 0 used count.old count.new }
+{
+    write_piece(rt, input, got, text, used, played.left, count)
+}
+
+// The same of what stands in a text.
+pub fn print_text<R: Print + Eprint>(
     rt: &R,
     input: &[u8],
     got: usize,
@@ -58,7 +74,7 @@ pub fn print<R: Print + Eprint>(
     requires { Piece input.now got text.now.room.now text.now.used count.old }
     ensures { Moves result played.left 0 text.now.used count.old count.new }
 {
-    write_piece(rt, input, got, text, played.left, count)
+    print(rt, input, got, &text.room, text.used, played, count)
 }
 
 // Plays the actions left over of an opened file and prints each piece. One reader is made, and it goes through them all.
@@ -87,7 +103,7 @@ pub fn play_all<R: Print + Eprint>(
     let mut left = actions;
     while 0 < left {
         let played = play::play(r, left, session, plan, g, ahead, way, text);
-        left = print(rt, input, got, text, played, count);
+        left = print_text(rt, input, got, text, played, count);
         r = r.moved_to(played.at);
         session = played.session;
     }

@@ -46,7 +46,7 @@ fn print_refusal<R: Print + Eprint>(rt: &R, refusal: Refusal) {
         room: &mut room,
         used: 0,
     };
-    lines::put_refusal(refusal, &mut line);
+    lines::put_refusal(u8::from(refusal), &mut line);
     let used = line.used;
     print(rt, &room[..used]);
 }

@@ -37,7 +37,7 @@ fn run<R: Print + Eprint>(
     ensures { WrittenTo (length (output file.now)) count.new }
 {
     let begun = opening::begin(file, t, plan, g, ahead, text);
-    let left = printing::print(rt, input, got, text, begun, count);
+    let left = printing::print_text(rt, input, got, text, begun, count);
     if left == 0 {
         return;
     }

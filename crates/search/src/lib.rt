@@ -5,14 +5,17 @@ ghost use Rattle.std.specs.Prelude.{◌≤◌, length};
 ghost use Rattle.refusal.specs.Numbers.{number_in};
 ghost use Rattle.tables.specs.Lent.{lent, SameTables, cells};
 ghost use Rattle.tables.specs.Sound.{Sound};
+ghost use Rattle.answer.specs.Answer.{told_by, Answering, Answers};
 ghost use Rattle.search.specs.Promise.{SearchRules, Searched, Searches};
 
 use answer;
 use answer::Answer;
 use entries;
+use entries::Aim;
 use refusal::Refusal;
 use session;
 use steps;
+use steps::Ran;
 use tables::{Ahead, Session};
 use take_over;
 
@@ -28,11 +31,29 @@ pub struct Outcome {
 fn check(s: Session, plan: &[u8], g: &[u32], ahead: &Ahead, way: &[u16]) -> Result<(), Refusal>
     ensures { SearchRules s (lent plan.now g.now ahead.now) way.now (number_in result) }
 {
-    session::check_tables(s, plan, g, ahead)?;
+    session::check_tables(
+        s,
+        plan,
+        g,
+        &ahead.rhs,
+        &ahead.parent,
+        &ahead.k1,
+        &ahead.k2,
+        &ahead.place,
+        &ahead.list,
+    )?;
     if way.len() < s.height * s.width {
         return Err(Refusal::Room);
     }
     Ok(())
+}
+
+// The answer after the run, read out of the tables ahead of g.
+fn answered(a: Aim, ran: Ran, ahead: &Ahead, way: &mut [u16]) -> Result<Answer, Refusal>
+    requires { Answering a ahead.now.rhs.now ahead.now.parent.now way.old }
+    ensures { Answers a ran.ended ran.steps ahead.now.rhs.now ahead.now.parent.now way.old (told_by result way.new) way.new }
+{
+    answer::answered(a, ran.ended, ran.steps, &ahead.rhs, &ahead.parent, way)
 }
 
 // A search of sound tables: for a caller who knows that they are, so that the check is not paid. At most three steps for each cell.
@@ -64,7 +85,7 @@ pub fn search_sound(
             searches: taken.searches + 1,
             ..taken
         },
-        answer: answer::answered(a, ran.ended, ran.steps, ahead, way),
+        answer: answered(a, ran, ahead, way),
     }
 }
 

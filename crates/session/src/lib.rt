@@ -3,7 +3,7 @@
 
 ghost use Rattle.decide.specs.Ruled.{Passed};
 ghost use Rattle.refusal.specs.Numbers.{number_in};
-ghost use Rattle.tables.specs.Lent.{lent, SameTables};
+ghost use Rattle.tables.specs.Lent.{tables, lent, SameTables};
 ghost use Rattle.session.specs.Refusals.{PlaceRules, OpenRules, TableRules};
 ghost use Rattle.session.specs.Promises.{hunter_at, target_at, Places, Opens};
 
@@ -66,25 +66,19 @@ pub fn check_open(
     target: usize,
     plan: &[u8],
     g: &[u32],
-    ahead: &Ahead,
+    rhs: &[u32],
+    parent: &[u8],
+    k1: &[u32],
+    k2: &[u32],
+    place: &[u16],
+    list: &[u16],
 ) -> Result<(), Refusal>
-    ensures { OpenRules width height hunter target (lent plan.now g.now ahead.now) (number_in result) }
+    ensures { OpenRules width height hunter target (tables plan.now g.now rhs.now parent.now k1.now k2.now place.now list.now) (number_in result) }
 {
     if !plan::is_size(width, height) {
         return Err(Refusal::Size);
     }
-    if !tables::lengths_hold(
-        width,
-        height,
-        plan,
-        g,
-        &ahead.rhs,
-        &ahead.parent,
-        &ahead.k1,
-        &ahead.k2,
-        &ahead.place,
-        &ahead.list,
-    ) {
+    if !tables::lengths_hold(width, height, plan, g, rhs, parent, k1, k2, place, list) {
         return Err(Refusal::Length);
     }
     let cells = height * width;
@@ -100,6 +94,34 @@ pub fn check_open(
     Ok(())
 }
 
+// The same, asked of the tables ahead of g.
+fn check_ahead(
+    width: usize,
+    height: usize,
+    hunter: usize,
+    target: usize,
+    plan: &[u8],
+    g: &[u32],
+    ahead: &Ahead,
+) -> Result<(), Refusal>
+    ensures { OpenRules width height hunter target (lent plan.now g.now ahead.now) (number_in result) }
+{
+    check_open(
+        width,
+        height,
+        hunter,
+        target,
+        plan,
+        g,
+        &ahead.rhs,
+        &ahead.parent,
+        &ahead.k1,
+        &ahead.k2,
+        &ahead.place,
+        &ahead.list,
+    )
+}
+
 // Opens a session on a plan: fills all other tables fresh.
 pub fn open(
     width: usize,
@@ -113,7 +135,7 @@ pub fn open(
     ensures opens { Opens width height hunter target (lent plan.now g.old ahead.old) result (lent plan.now g.new ahead.new) }
     ensures same_tables { SameTables ahead.old ahead.new }
 {
-    let checked = check_open(width, height, hunter, target, plan, g, ahead);
+    let checked = check_ahead(width, height, hunter, target, plan, g, ahead);
     match checked {
         Ok(()) => {
             let placed = entries::placed_on(width, height, hunter, target);
@@ -132,37 +154,26 @@ pub fn open(
 
 // Are the tables of a session of its size, and sound?
 #[tactic(auto, using(decide::proofs::RuledLaws::in_order))]
-pub fn check_tables(s: Session, plan: &[u8], g: &[u32], ahead: &Ahead) -> Result<(), Refusal>
-    ensures { TableRules s (lent plan.now g.now ahead.now) Passed (number_in result) }
+pub fn check_tables(
+    s: Session,
+    plan: &[u8],
+    g: &[u32],
+    rhs: &[u32],
+    parent: &[u8],
+    k1: &[u32],
+    k2: &[u32],
+    place: &[u16],
+    list: &[u16],
+) -> Result<(), Refusal>
+    ensures { TableRules s (tables plan.now g.now rhs.now parent.now k1.now k2.now place.now list.now) Passed (number_in result) }
 {
     if !plan::is_size(s.width, s.height) {
         return Err(Refusal::Size);
     }
-    if !tables::lengths_hold(
-        s.width,
-        s.height,
-        plan,
-        g,
-        &ahead.rhs,
-        &ahead.parent,
-        &ahead.k1,
-        &ahead.k2,
-        &ahead.place,
-        &ahead.list,
-    ) {
+    if !tables::lengths_hold(s.width, s.height, plan, g, rhs, parent, k1, k2, place, list) {
         return Err(Refusal::Length);
     }
-    if !tables::is_sound(
-        s,
-        plan,
-        g,
-        &ahead.rhs,
-        &ahead.parent,
-        &ahead.k1,
-        &ahead.k2,
-        &ahead.place,
-        &ahead.list,
-    ) {
+    if !tables::is_sound(s, plan, g, rhs, parent, k1, k2, place, list) {
         return Err(Refusal::Tables);
     }
     Ok(())

@@ -19,8 +19,7 @@ use Rattle.method.specs.During.{most, During}
 use Rattle.method.proofs.Growth.{up_to_more, during_up_to}
 use Rattle.method.proofs.Running.{run_zero, run_none, run_some, pick_next, during_step, step_on}
 use Rattle.method.proofs.Stepping.{stepped_sized}
-use Rattle.tables.specs.declared.Ahead.{Ahead}
-use Rattle.tables.specs.Lent.{Tables, tables, lent, core}
+use Rattle.tables.specs.Lent.{Tables, tables, core}
 use Rattle.entries.specs.declared.Aim.{Aim}
 use Rattle.entries.specs.Aims.{area, hunt, most_g, Aimed, Held, Ready}
 use Rattle.entries.specs.Became.{Became}
@@ -91,6 +90,17 @@ module _ {a : Aim} {count₀ count limit steps : ℕ} {t₀ : Tables} {plan g rh
     small_rhs = small_by rhs (area a) G.held.sized.rhs small.rhs;
   }
 
+  -- the next cell can be chosen
+  pub choosing : Choosing a count g rhs k1 k2 place list
+  choosing = record {
+    size = A.obeys.size;
+    target_in = A.target_in;
+    in_g = G.held.sized.g;
+    in_rhs = G.held.sized.rhs;
+    heap = G.held.heap;
+    goal = λ n. ⊎_elim (λ (e : get_or rhs a.target 0 ≡ infinite). absurd (n e)) (λ (h : get_or rhs a.target 0 ≤ most_g). omega (arith, A.km_le)) (ready.small_rhs a.target);
+  }
+
   -- the cell chosen is one to step on
   module _ {u : ℕ} (next : some u ≡ next_cell (hunt a plan) (core (tables plan g rhs parent k1 k2 place list))) where
     pub stepping : Stepping a count u (tables plan g rhs parent k1 k2 place list)
@@ -108,17 +118,6 @@ module _ {a : Aim} {count₀ count limit steps : ℕ} {t₀ : Tables} {plan g rh
           (rest_more (hunt a plan) (core t₀) (core (tables plan g rhs parent k1 k2 place list)) limit steps u G.rest l (sym next));
       untouched = λ e. absurd (omega (arith, e));
     }
-
--- the next cell can be chosen
-pub choosing : {a : Aim} {count₀ count limit steps : ℕ} {t₀ : Tables} {plan g : List ℕ} {t : Ahead} → Aimed a plan → Going a plan count₀ count t₀ (lent plan g t) limit steps → Choosing a count g t
-choosing {a} {t = t} A G = record {
-  size = A.obeys.size;
-  target_in = A.target_in;
-  in_g = G.held.sized.g;
-  in_rhs = G.held.sized.rhs;
-  heap = G.held.heap;
-  goal = λ n. ⊎_elim (λ (e : get_or t.rhs.now a.target 0 ≡ infinite). absurd (n e)) (λ (h : get_or t.rhs.now a.target 0 ≤ most_g). omega (arith, A.km_le)) ((ready A G).small_rhs a.target);
-}
 
 module _ {a : Aim} {count₀ count limit steps : ℕ} {plan g₀ rhs₀ parent₀ k1₀ k2₀ place₀ list₀ g rhs parent k1 k2 place list : List ℕ}
     (G : Going a plan count₀ count (tables plan g₀ rhs₀ parent₀ k1₀ k2₀ place₀ list₀) (tables plan g rhs parent k1 k2 place list) limit steps) where

@@ -1,10 +1,15 @@
 // The steps of a search over the lent tables: put back, lower, raise, and the loop over them, up to a limit.
 #![tactic(auto)]
 
+ghost use Rattle.std.specs.Prelude.{◌≡◌, ltb};
+ghost use Rattle.method.specs.Tables.{stored_key, calculated_key};
+ghost use Rattle.method.specs.Loop.{next_cell};
 ghost use Rattle.method.specs.Steps.{lowered, raised, stepped};
 ghost use Rattle.tables.specs.Lent.{lent, SameTables, core};
 ghost use Rattle.entries.specs.Aims.{hunt, most_g, Aimed, ReadyAt};
 ghost use Rattle.entries.specs.Became.{Became, KeptIn};
+ghost use Rattle.choices.specs.Moves.{Relaxing, Relaxes, Renewing, Renews, Numbers, Keyed};
+ghost use Rattle.choices.specs.Next.{Choosing, next_of};
 ghost use Rattle.steps.specs.Ready.{Obeying, Obeyed, Lowering, Stepping};
 ghost use Rattle.steps.specs.Loop.{Started, Finished};
 
@@ -15,6 +20,22 @@ use plan;
 use plan::Spot;
 use tables;
 use tables::Ahead;
+
+// What an open move from u asks in "lower", read out of the tables ahead of g.
+fn relaxation(a: Aim, plan: &[u8], ahead: &Ahead, v: u32, u: usize, d: usize) -> Option<Asked>
+    requires { Relaxing a plan.now ahead.now.rhs.now v u d }
+    ensures { Relaxes a plan.now ahead.now.rhs.now v u d result }
+{
+    choices::relaxation(a, plan, &ahead.rhs, v, u, d)
+}
+
+// What it asks in "raise".
+fn finding_anew(a: Aim, plan: &[u8], g: &[u32], ahead: &Ahead, u: usize, d: usize) -> Option<Asked>
+    requires { Renewing a plan.now g.now ahead.now.parent.now u d }
+    ensures { Renews a plan.now g.now ahead.now.parent.now u d result }
+{
+    choices::finding_anew(a, plan, g, &ahead.parent, u, d)
+}
 
 // The cell that a move in direction d enters does what is asked of it; `at` is the spot that the move leaves. Returns the queue's count.
 fn obey(
@@ -54,9 +75,9 @@ fn lower(
 {
     let v = ahead.rhs[u];
     g[u] = v;
-    let mut n = entries::set_right(a, g, ahead, count, u, at);
+    let mut n = entries::set_right_ahead(a, g, ahead, count, u, at);
     for d in 0..4 {
-        let asked = choices::relaxation(a, plan, ahead, v, u, d);
+        let asked = relaxation(a, plan, ahead, v, u, d);
         n = obey(a, g, ahead, n, at, d, asked);
     }
     n
@@ -79,10 +100,18 @@ fn raise(
     g[u] = tables::INFINITE;
     let mut n = count;
     for d in 0..4 {
-        let asked = choices::finding_anew(a, plan, g, ahead, u, d);
+        let asked = finding_anew(a, plan, g, ahead, u, d);
         n = obey(a, g, ahead, n, at, d, asked);
     }
-    entries::set_right(a, g, ahead, n, u, at)
+    entries::set_right_ahead(a, g, ahead, n, u, at)
+}
+
+// Is the queued cell u, which stands at `at`, to be put back?
+fn is_stale(a: Aim, g: &[u32], ahead: &Ahead, u: usize, at: Spot) -> bool
+    requires { Keyed a u at g.now ahead.now.rhs.now ahead.now.k1.now ahead.now.k2.now }
+    ensures { (plan : Numbers) → result ≡ ltb (stored_key (core (lent plan g.now ahead.now)) u) (calculated_key (hunt a plan) (core (lent plan g.now ahead.now)) u) }
+{
+    choices::stale(a, g, &ahead.rhs, &ahead.k1, &ahead.k2, u, at)
 }
 
 // One step on the least cell u: put back, lower or raise.
@@ -92,13 +121,30 @@ fn step(a: Aim, plan: &[u8], g: &mut [u32], ahead: &mut Ahead, count: usize, u: 
     ensures same_tables { SameTables ahead.old ahead.new }
 {
     let at = plan::spot_of(a.width, u);
-    if choices::stale(a, g, ahead, u, at) {
-        return entries::set_right(a, g, ahead, count, u, at);
+    if is_stale(a, g, ahead, u, at) {
+        return entries::set_right_ahead(a, g, ahead, count, u, at);
     }
     if ahead.rhs[u] < g[u] {
         return lower(a, plan, g, ahead, count, u, at);
     }
     raise(a, plan, g, ahead, count, u, at)
+}
+
+// The cell to step on next, if the search goes on.
+fn next(a: Aim, g: &[u32], ahead: &Ahead, count: usize) -> Option<usize>
+    requires { Choosing a count g.now ahead.now.rhs.now ahead.now.k1.now ahead.now.k2.now ahead.now.place.now ahead.now.list.now }
+    ensures { (plan : Numbers) → next_of result ≡ next_cell (hunt a plan) (core (lent plan g.now ahead.now)) }
+{
+    choices::chosen(
+        a,
+        g,
+        &ahead.rhs,
+        &ahead.k1,
+        &ahead.k2,
+        &ahead.place,
+        &ahead.list,
+        count,
+    )
 }
 
 // How a run of the loop ended: by itself or at its limit, after how many steps, with how many cells queued.
@@ -118,7 +164,7 @@ pub fn run(a: Aim, plan: &[u8], g: &mut [u32], ahead: &mut Ahead, count: usize, 
 {
     let mut n = count;
     for steps in 0..limit {
-        let Some(u) = choices::chosen(a, g, ahead, n) else {
+        let Some(u) = next(a, g, ahead, n) else {
             return Ran {
                 ended: true,
                 steps,
@@ -128,7 +174,7 @@ pub fn run(a: Aim, plan: &[u8], g: &mut [u32], ahead: &mut Ahead, count: usize, 
         n = step(a, plan, g, ahead, n, u);
     }
     Ran {
-        ended: choices::chosen(a, g, ahead, n).is_none(),
+        ended: next(a, g, ahead, n).is_none(),
         steps: limit,
         count: n,
     }

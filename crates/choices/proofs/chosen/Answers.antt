@@ -10,11 +10,11 @@ use Rattle.choices.proofs.chosen.Goals.{then-x-y-via-then-x-y, then-x-y-via-else
 pub returns-then-count-eq0 : goal.returns-then-count-eq0
 returns-then-count-eq0 c = chosen_empty c.requires c.if-count-eq0.true
 
-pub offset_bounds-ahead-u : goal.offset_bounds-ahead-u
-offset_bounds-ahead-u c = omega (arith, chosen_in (leading c.requires c.if-count-eq0.false c.least-u.ensures), area c.requires.size)
+pub offset_bounds-k1-u : goal.offset_bounds-k1-u
+offset_bounds-k1-u c = omega (arith, chosen_in (leading c.requires c.if-count-eq0.false c.least-u.ensures), area c.requires.size)
 
-pub bounds-ahead-u : goal.bounds-ahead-u
-bounds-ahead-u c = omega (arith, chosen_in (leading c.requires c.if-count-eq0.false c.least-u.ensures), c.requires.heap.tables.length1)
+pub bounds-k1-u : goal.bounds-k1-u
+bounds-k1-u c = omega (arith, chosen_in (leading c.requires c.if-count-eq0.false c.least-u.ensures), c.requires.heap.tables.length1)
 
 pub offset_bounds-k2-u : goal.offset_bounds-k2-u
 offset_bounds-k2-u c = omega (arith, chosen_in (leading c.requires c.if-count-eq0.false c.least-u.ensures), area c.requires.size)
@@ -24,7 +24,7 @@ bounds-k2-u c = omega (arith, chosen_in (leading c.requires c.if-count-eq0.false
 
 pub returns-then-x-y : goal.returns-then-x-y
 returns-then-x-y c = let L = leading c.requires c.if-count-eq0.false c.least-u.ensures in
-    let words : Words c.args.ahead.now.k2.now = search rules in
+    let words : Words c.args.k2.now = search rules in
     elim c.then-x-y.branch [
       | then-x-y-via-then-x-y w ↦ chosen_over L words w.if-x-y.true
       | then-x-y-via-else-x-y+then-least-key w ↦
@@ -33,5 +33,5 @@ returns-then-x-y c = let L = leading c.requires c.if-count-eq0.false c.least-u.e
 
 pub returns : goal.returns
 returns c = let L = leading c.requires c.if-count-eq0.false c.least-u.ensures in
-    let words : Words c.args.ahead.now.k2.now = search rules in
+    let words : Words c.args.k2.now = search rules in
     chosen_done L words c.if-x-y.false c.key-least.ensures (goal_key c.args.a c.requires.goal c.saturating_add.ensures c.key.ensures) c.if-least-key.false

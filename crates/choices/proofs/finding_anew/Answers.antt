@@ -9,14 +9,14 @@ returns-in_err-reach c = rw c.from_residual.ensures (renews_none c.requires c.in
 pub returns-then-reach-a : goal.returns-then-reach-a
 returns-then-reach-a c = renews_hunter c.requires c.in_ok-reach.ensures c.if-reach-a.true
 
-pub bounds-ahead-reach : goal.bounds-ahead-reach
-bounds-ahead-reach c = omega (arith, (enters_by c.requires.leaving c.in_ok-reach.ensures).0.inside, c.requires.long_parent)
+pub bounds-parent-reach : goal.bounds-parent-reach
+bounds-parent-reach c = omega (arith, (enters_by c.requires.leaving c.in_ok-reach.ensures).0.inside, c.requires.long_parent)
 
-pub returns-then-ahead-reach : goal.returns-then-ahead-reach
-returns-then-ahead-reach c = renews_not c.requires c.in_ok-reach.ensures c.if-reach-a.false c.if-ahead-reach.true
+pub returns-then-parent-reach : goal.returns-then-parent-reach
+returns-then-parent-reach c = renews_not c.requires c.in_ok-reach.ensures c.if-reach-a.false c.if-parent-reach.true
 
 pub anew-requires : goal.anew-requires
 anew-requires c = child_findable c.requires c.in_ok-reach.ensures
 
 pub returns : goal.returns
-returns c = renews_at c.requires c.in_ok-reach.ensures c.if-reach-a.false c.if-ahead-reach.false c.anew.ensures
+returns c = renews_at c.requires c.in_ok-reach.ensures c.if-reach-a.false c.if-parent-reach.false c.anew.ensures

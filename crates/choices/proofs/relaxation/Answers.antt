@@ -10,15 +10,15 @@ returns-in_err-reach c = rw c.from_residual.ensures (relaxes_none c.requires c.i
 pub returns-then-reach-a : goal.returns-then-reach-a
 returns-then-reach-a c = relaxes_hunter c.requires c.in_ok-reach.ensures c.if-reach-a.true
 
-pub offset_bounds-ahead-reach : goal.offset_bounds-ahead-reach
-offset_bounds-ahead-reach c = let L = c.requires.leaving in
+pub offset_bounds-rhs-reach : goal.offset_bounds-rhs-reach
+offset_bounds-rhs-reach c = let L = c.requires.leaving in
     omega (arith, (enters_by L c.in_ok-reach.ensures).0.inside, area L.aimed.obeys.size)
 
-pub bounds-ahead-reach : goal.bounds-ahead-reach
-bounds-ahead-reach c = omega (arith, (enters_by c.requires.leaving c.in_ok-reach.ensures).0.inside, c.requires.long_rhs)
+pub bounds-rhs-reach : goal.bounds-rhs-reach
+bounds-rhs-reach c = omega (arith, (enters_by c.requires.leaving c.in_ok-reach.ensures).0.inside, c.requires.long_rhs)
 
-pub returns-then-ahead-reach : goal.returns-then-ahead-reach
-returns-then-ahead-reach c = relaxes_not c.requires c.in_ok-reach.ensures c.if-reach-a.false c.if-ahead-reach.true
+pub returns-then-rhs-reach : goal.returns-then-rhs-reach
+returns-then-rhs-reach c = relaxes_not c.requires c.in_ok-reach.ensures c.if-reach-a.false c.if-rhs-reach.true
 
 pub returns : goal.returns
-returns c = relaxes_to c.requires c.in_ok-reach.ensures c.if-reach-a.false c.if-ahead-reach.false
+returns c = relaxes_to c.requires c.in_ok-reach.ensures c.if-reach-a.false c.if-rhs-reach.false

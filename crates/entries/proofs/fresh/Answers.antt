@@ -14,7 +14,7 @@ returns c =
     (c.fill-5.ensures.after (λ _ e. e))
     (c.fill-6.ensures.after (λ _ e. e))
     (c.fill-7.ensures.after (λ _ e. e)) in
-    let entered = c.set_right.ensures.entered.became c.args.plan.now in
+    let entered = c.set_right_ahead.ensures.entered.became c.args.plan.now in
     record {
       became = fresh_became c.requires.aimed.0 b c.requires.aimed.1 entered;
       value = fresh_count c.requires.aimed.0 b c.requires.aimed.1 entered;

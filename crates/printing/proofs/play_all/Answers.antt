@@ -8,15 +8,15 @@ use Rattle.printing.specs.Promises.{WrittenTo}
 use Rattle.printing.proofs.PrintLaws.{goes_on, all_done, so_far_named, piece, next_so_far}
 use Rattle.printing.proofs.play_all.Goals as goal
 
-pub print-left-requires : goal.print-left-requires
-print-left-requires g c = piece (goes_on c.loop-left.invariant.1 c.loop-left-test.true) c.play-played.ensures.plays c.loop-left-test.true
+pub print_text-left-requires : goal.print_text-left-requires
+print_text-left-requires g c = piece (goes_on c.loop-left.invariant.1 c.loop-left-test.true) c.play-played.ensures.plays c.loop-left-test.true
 
 pub loop-left-preserved : goal.loop-left-preserved
 loop-left-preserved g c =
     let so_far = goes_on c.loop-left.invariant.1 c.loop-left-test.true in (
       c.moved_to-r.ensures.0 ∙ c.loop-left.invariant.0,
       so_far_named
-          (next_so_far so_far c.play-played.ensures.plays c.loop-left-test.true c.print-left.result c.print-left.new.count c.print-left.ensures c.play-played.auto.way)
+          (next_so_far so_far c.play-played.ensures.plays c.loop-left-test.true c.print_text-left.result c.print_text-left.new.count c.print_text-left.ensures c.play-played.auto.way)
           (ap (λ f. f.now) c.moved_to-r.ensures.0)
           c.moved_to-r.ensures.1,
       search rules,

@@ -12,7 +12,7 @@ use Rattle.steps.proofs.lower.Goals as goal
 
 pub loop-d-init : goal.loop-d-init
 loop-d-init c = let R = (g_set _ c.requires.here (inr (lower_finite c.requires))).ready in
-    let e = c.set_right-n.ensures.entered in (
+    let e = c.set_right_ahead-n.ensures.entered in (
       record {
         few = omega arith;
         is = relaxed_first _ _ _ _;
@@ -40,6 +40,6 @@ returns-clause-became c = let p = c.requires.here in
     c.args.ahead.now.list.now
     (omega (arith, p.ready.held.sized.g, p.inside))
     (omega (arith, i.few, c.loop-d-test.false))
-    (c.set_right-n.ensures.entered.became _).is
+    (c.set_right_ahead-n.ensures.entered.became _).is
     i.is
     i.ready.held

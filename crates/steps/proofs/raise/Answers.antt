@@ -29,4 +29,4 @@ returns-clause-became c = let i = c.loop-d.invariant.0 in
     c.args.ahead.now.list.now
     (omega (arith, i.few, c.loop-d-test.false))
     i.is
-    (c.set_right.ensures.entered.became _)
+    (c.set_right_ahead.ensures.entered.became _)
