@@ -7,6 +7,16 @@ ghost use Rattle.text.specs.Put.{PutIn};
 
 use itoa;
 
+// Copies bytes over as many others. A loop, since the library's copy_from_slice calls memmove, which who links the C functions would then have to bring besides memcpy and memset.
+fn copy_over(from: &[u8], to: &mut [u8])
+    requires { length to.old ≡ length from.now }
+    ensures { to.new ≡ from.now }
+{
+    for i in 0..from.len() {
+        to[i] = from[i];
+    }
+}
+
 // A text in a lent room, of which it takes so many bytes from the first on.
 #[derive(Drop)]
 pub struct Text<'a> {
@@ -22,7 +32,7 @@ impl<'a> Text<'a> {
         ensures same_room { self.new.room.ghost_name ≡ self.old.room.ghost_name }
     {
         let end = self.used + word.len();
-        self.room[self.used..end].copy_from_slice(word);
+        copy_over(word, &mut self.room[self.used..end]);
         self.used = end;
     }
 

@@ -4,4 +4,4 @@ use Rattle.text.proofs.PutLaws.{put_part}
 use Rattle.text.proofs.Text.put_word.Goals as goal
 
 pub returns-clause-put : goal.returns-clause-put
-returns-clause-put c = put_part _ _ _ _ c.copy_from_slice.ensures.after (omega arith) (omega arith)
+returns-clause-put c = put_part _ _ _ _ c.copy_over.ensures (omega arith) (omega arith)
