@@ -8,8 +8,7 @@ use Rattle.std.specs.Prelude.{Option, None, Some, is_some}
 use Prim.Native.Nat.{ℕ, zero, suc, ◌+◌, ◌*◌, ◌-◌, ◌<◌, ◌≤◌}
 use native.Mathlib.Decide.{ℕ_discrete, dec_le}
 use native.Mathlib.Omega.{arith}
-use lib.ListN.{length, get_or, take, drop, length-take, length-drop}
-use Rattle.std.proofs.lemmas.List.{get_or-take, get_or-drop}
+use lib.ListN.{length, get_or}
 use Rattle.decide.specs.Choose.{choose}
 use Rattle.decide.proofs.ChooseLaws.{choose_yes, choose_no, choose_is}
 use Rattle.plan.proofs.MoveLaws.{area}
@@ -90,28 +89,6 @@ module _ (file : List ℕ) (at : ℕ) where
 -- An action of equal parts.
 pub same_action : {kind kind' cell cell' d d' cost cost' : ℕ} → kind ≡ kind' → cell ≡ cell' → d ≡ d' → cost ≡ cost' → action_of kind cell d cost ≡ action_of kind' cell' d' cost'
 same_action a b c e = rw (a, b, c, e)
-
--- The first five bytes of what stands in a file from a place on say the action there.
-pub action_first : (file : List ℕ) (at : ℕ) {rest bytes : List ℕ} → rest ≡ take (length file - at) (drop at file) → bytes ≡ take 5 rest → 5 ≤ length rest → at ≤ length file
-    → action_of (get_or bytes 0 0) (get_or bytes 1 0 + get_or bytes 2 0 * 256) (get_or bytes 3 0) (get_or bytes 4 0) ≡ action_at file at
-action_first file at {rest} {bytes} e f long l =
-    same_action (here 0 at (omega arith) (omega arith))
-    (omega (arith, here 1 (at + 1) (omega arith) refl, here 2 (at + 1 + 1) (omega arith) (omega arith)))
-    (here 3 (at + 3) (omega arith) refl)
-    (here 4 (at + 4) (omega arith) refl)
-    ∙ action_there file at fits
-  where
-    fits : at + 5 ≤ length file
-    fits = omega (arith, long, ap length e, length-take (length file - at) (drop at file), length-drop at file)
-
-    here : (i k : ℕ) → i < 5 → at + i ≡ k → get_or bytes i 0 ≡ get_or file k 0
-    here i k m n =
-        ap (λ (x : List ℕ). get_or x i 0) f
-        ∙ get_or-take 5 rest i 0 m
-        ∙ ap (λ (x : List ℕ). get_or x i 0) e
-        ∙ get_or-take (length file - at) (drop at file) i 0 (omega (arith, fits))
-        ∙ get_or-drop at file i 0
-        ∙ ap (λ j. get_or file j 0) n
 
 -- One action that is well formed does not change whether all are ..
 pub well_more : (a : Option Action) (l : List (Option Action)) → is_some a ≡ true → well_formed (a ∷ l) ≡ well_formed l

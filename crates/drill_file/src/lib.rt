@@ -82,15 +82,18 @@ pub fn trailer_in(file: &[u8]) -> Trailer
 fn action_of(kind: u8, cell: usize, direction: u8, cost: u8) -> Option<Action>
     ensures { result ≡ action_of kind cell direction cost }
 {
-    match (kind, cell, direction, cost) {
-        (1, _, _, _) => Some(Action::Change {
+    match (kind, direction, cost) {
+        (1, _, _) => Some(Action::Change {
             cell,
             direction: usize::from(direction),
             cost,
         }),
-        (2, _, 0, 0) => Some(Action::Hunter(cell)),
-        (3, _, 0, 0) => Some(Action::Target(cell)),
-        (4, 0, 0, 0) => Some(Action::Search),
+        (_, 0, 0) => match (kind, cell) {
+            (2, _) => Some(Action::Hunter(cell)),
+            (3, _) => Some(Action::Target(cell)),
+            (4, 0) => Some(Action::Search),
+            _ => None,
+        },
         _ => None,
     }
 }
@@ -100,9 +103,11 @@ fn action_of(kind: u8, cell: usize, direction: u8, cost: u8) -> Option<Action>
 fn action_at(file: &[u8], at: usize) -> Option<Action>
     ensures { result ≡ action_at file.now at }
 {
-    let [kind, low, high, direction, cost] = *file.get(at..)?.first_chunk::<ACTION>()?;
-    let cell = u16::from_le_bytes([low, high]);
-    action_of(kind, usize::from(cell), direction, cost)
+    let last = file.len().checked_sub(ACTION)?;
+    if last < at {
+        return None;
+    }
+    action_of(file[at], two_at(file, at + 1), file[at + 3], file[at + 4])
 }
 
 // A reader holds the file and its place in it.
