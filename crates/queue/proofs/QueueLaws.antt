@@ -1,4 +1,4 @@
--- What a caller of the queue uses: the empty queue, what a change did cell by cell and what of it is determined, and that the least is one cell.
+-- What a caller of the queue uses: what a change did cell by cell and what of it is determined, and that the least is one cell.
 use mathlib.Core.Path.{◌≡◌, sym, ap, ◌∙◌}
 use mathlib.Core.Bool.{Bool, false}
 use mathlib.Core.List.{List}
