@@ -6,8 +6,6 @@ use native.Mathlib.Decide.{dec_lt}
 use native.Mathlib.Nat.{pow-succ', div-add-mod'}
 use native.Mathlib.Omega.{arith}
 use lib.ListN.{length, length-append}
-use Rattle.std.specs.Fmt.{decimal as std_decimal}
-use Rattle.std.proofs.lemmas.Fmt.{decimal_by_steps}
 use Rattle.decide.specs.Choose.{choose}
 use Rattle.decide.proofs.ChooseLaws.{choose_yes, choose_no, choose_is}
 use Rattle.text.specs.Text.{digits, decimal}
@@ -50,19 +48,16 @@ digits_given (suc k) n =
     (λ _. omega (arith, length-append (digits k (n / 10)) ((48 + n % 10) ∷ []), digits_given k (n / 10)))
 
 -- A number below ten in decimal.
-decimal_one : (n : ℕ) → n < 10 → (48 + n) ∷ [] ≡ decimal n
+pub decimal_one : (n : ℕ) → n < 10 → (48 + n) ∷ [] ≡ decimal n
 decimal_one n l = sym (digits_one 19 n l)
 
 -- Another of 64 bits in decimal: its tens, then its last digit.
-decimal_tens : (n : ℕ) → 10 ≤ n → n < 18446744073709551616 → decimal (n / 10) ++ ((48 + n % 10) ∷ []) ≡ decimal n
+pub decimal_tens : (n : ℕ) → 10 ≤ n → n < 18446744073709551616 → decimal (n / 10) ++ ((48 + n % 10) ∷ []) ≡ decimal n
 decimal_tens n l f = sym (digits_tens 19 n l ∙ ap (λ (x : List ℕ). x ++ ((48 + n % 10) ∷ [])) (digits_enough 18 (n / 10) (omega arith)))
 
--- What std writes of a number of 64 bits is the number in decimal.
-pub decimal_of_std : (n : ℕ) → n < 18446744073709551616 → std_decimal n ≡ decimal n
-decimal_of_std n f = decimal_by_steps (λ k (x : List ℕ). k < 18446744073709551616 → x ≡ decimal k) (λ k l _. decimal_one k l) more n f f
-  where
-    more : (k : ℕ) (x : List ℕ) → 10 ≤ k → (k / 10 < 18446744073709551616 → x ≡ decimal (k / 10)) → k < 18446744073709551616 → x ++ ((48 + k % 10) ∷ []) ≡ decimal k
-    more k x l e h = ap (λ (y : List ℕ). y ++ ((48 + k % 10) ∷ [])) (e (omega arith)) ∙ decimal_tens k l h
+-- So it has one digit more than its tens.
+pub decimal_longer : (n : ℕ) → 10 ≤ n → n < 18446744073709551616 → length (decimal n) ≡ length (decimal (n / 10)) + 1
+decimal_longer n l f = ap length (sym (decimal_tens n l f)) ∙ length-append (decimal (n / 10)) ((48 + n % 10) ∷ [])
 
 -- No number is written with more than twenty.
 pub decimal_few : (n : ℕ) → length (decimal n) ≤ 20

@@ -1,14 +1,16 @@
 -- Texts put one behind the other.
 use mathlib.Core.Path.{◌≡◌, refl, sym, ap, subst, ◌∙◌}
 use mathlib.Core.List.{List, [], ◌∷◌, ◌++◌, append_assoc, append-nil}
-use Prim.Native.Nat.{ℕ, ◌+◌, ◌-◌, ◌≤◌, ◌<◌}
+use Prim.Native.Nat.{ℕ, ◌+◌, ◌-◌, ◌/◌, ◌%◌, ◌≤◌, ◌<◌}
 use native.Mathlib.Omega.{arith}
 use native.Mathlib.Numerals.{add-one}
 use lib.ListN.{length, take, drop, set, length-append, length-take, length-drop, length-set}
 use lib.Seq.{take-suc-set, length-take-le, drop-set-lt, drop-drop}
 use borrow.Rule.Slice.PartMut.{put_mid, same_len_mid}
 use Rattle.std.proofs.lemmas.Slice.{take-put_mid, drop-put_mid}
+use Rattle.text.specs.Text.{decimal}
 use Rattle.text.specs.Put.{Put}
+use Rattle.text.proofs.DecimalLaws.{decimal_tens}
 
 -- Nothing is put by leaving the buffer as it is.
 pub put_nothing : (b : List ℕ) (at : ℕ) → Put b at [] at b
@@ -51,3 +53,7 @@ put_end {b} {a} {x} {at} {r} p l = omega (arith, p.end, ap length p.stands, leng
 -- The same text and the same end, written otherwise.
 pub put_as : {b a x y : List ℕ} {at r q : ℕ} → x ≡ y → r ≡ q → Put b at x r a → Put b at y q a
 put_as e f p = rw (← e, ← f) p
+
+-- The last digit of a number of 64 bits put behind its tens.
+pub put_last_digit : {b m a : List ℕ} {at r q : ℕ} (n : ℕ) → 10 ≤ n → n < 18446744073709551616 → Put b at (decimal (n / 10)) r m → Put m r ((48 + n % 10) ∷ []) q a → Put b at (decimal n) q a
+put_last_digit n l f p s = put_as (decimal_tens n l f) refl (put_then p s)

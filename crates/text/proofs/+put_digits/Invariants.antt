@@ -1,0 +1,5 @@
+-- The number is the measure: its tens are fewer.
+use Rattle.text.proofs.+put_digits.Given as goal
+
+abbrev pub decreases-put_digits : goal.decreases-put_digits
+decreases-put_digits l = l.n
