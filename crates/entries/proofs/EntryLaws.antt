@@ -34,7 +34,7 @@ module _ {a : Aim} {cell : ℕ} {at : Spot} {g rhs : List ℕ} (S : Sited a cell
       → (plan : List ℕ) → method.first_key (hunt a plan) cell m ≡ first
   first_key_is {m} f em ef plan = first_finite (hunt a plan) cell m (omega (arith, f, em)) ∙ omega (arith, ef, estimate_at {b = a.target_at} S.stands S.target_at)
 
--- The queue's tables are what is left of these.
+-- The queue's tables are those that its call left.
 pub record Left (k1 k2 place list k1' k2' place' list' : List ℕ) : Type 0 where
   pub k1_is : k1' ≡ k1
   pub k2_is : k2' ≡ k2
