@@ -6,6 +6,8 @@ use native.Mathlib.Decide.{dec_lt}
 use native.Mathlib.Nat.{pow-succ', div-add-mod'}
 use native.Mathlib.Omega.{arith}
 use lib.ListN.{length, length-append}
+use Rattle.std.specs.Fmt.{decimal as std_decimal}
+use Rattle.std.proofs.lemmas.Fmt.{decimal_by_steps}
 use Rattle.decide.specs.Choose.{choose}
 use Rattle.decide.proofs.ChooseLaws.{choose_yes, choose_no, choose_is}
 use Rattle.text.specs.Text.{digits, decimal}
@@ -58,6 +60,13 @@ decimal_tens n l f = sym (digits_tens 19 n l ∙ ap (λ (x : List ℕ). x ++ ((4
 -- So it has one digit more than its tens.
 pub decimal_longer : (n : ℕ) → 10 ≤ n → n < 18446744073709551616 → length (decimal n) ≡ length (decimal (n / 10)) + 1
 decimal_longer n l f = ap length (sym (decimal_tens n l f)) ∙ length-append (decimal (n / 10)) ((48 + n % 10) ∷ [])
+
+-- What std writes of a number of 64 bits is the number in decimal.
+pub decimal_of_std : (n : ℕ) → n < 18446744073709551616 → std_decimal n ≡ decimal n
+decimal_of_std n f = decimal_by_steps (λ k (x : List ℕ). k < 18446744073709551616 → x ≡ decimal k) (λ k l _. decimal_one k l) more n f f
+  where
+    more : (k : ℕ) (x : List ℕ) → 10 ≤ k → (k / 10 < 18446744073709551616 → x ≡ decimal (k / 10)) → k < 18446744073709551616 → x ++ ((48 + k % 10) ∷ []) ≡ decimal k
+    more k x l e h = ap (λ (y : List ℕ). y ++ ((48 + k % 10) ∷ [])) (e (omega arith)) ∙ decimal_tens k l h
 
 -- No number is written with more than twenty.
 pub decimal_few : (n : ℕ) → length (decimal n) ≤ 20
